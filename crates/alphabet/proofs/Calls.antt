@@ -1,0 +1,191 @@
+-- The laws of the calls: what an answer tells by number, and the guesser's calls one after another.
+use mathlib.Core.Path.{_≡_, refl, sym, ap, _∙_}
+use mathlib.Core.Bool.{Bool, true, false, _&&_, true≢false}
+use mathlib.Core.List.{List, [], _∷_, _++_}
+use Prim.Native.Nat.{ℕ, zero, suc, _≤_, _<_}
+use native.Mathlib.Omega.{arith}
+use borrow.Author.Tests.{le-leb, leb-true}
+use lib.Count.{trailingZeros}
+use lib.Dec.{leb, lit≤}
+use lib.ListN.{length, getD, take}
+use Rattle.alphabet.specs.Symbols.{bytesOf}
+use Rattle.bits.specs.Tables.{Bytes}
+use Rattle.alphabet.specs.Questions.{ask_else_then_, accepted, refused}
+use Rattle.alphabet.specs.declared.refusal.Refusal.{Refusal}
+use Rattle.alphabet.specs.Names.{displayName, nameOf, numberOf, known, kindOf, namedAt}
+use Rattle.alphabet.specs.Guess.{order, masked, lowest, guessOf, freshGuesser, soundGuesser, guesserUpdateAt, guessAt}
+use Rattle.alphabet.specs.Answers.{namedReply, namedTold, guesserUpdatedReply, guesserUpdateTold, guessedReply, guessTold}
+use Rattle.alphabet.specs.declared.kind.AlphabetType.{AlphabetType}
+use Rattle.alphabet.specs.declared.kind.AlphabetType.the-variants.{Unknown}
+use Rattle.alphabet.specs.declared.kind.Named.{Named}
+use Rattle.alphabet.specs.declared.guesser.AlphabetGuesser.{AlphabetGuesser}
+use Rattle.alphabet.specs.declared.guesser.GuesserUpdated.{GuesserUpdated}
+use Rattle.alphabet.specs.declared.guesser.Guessed.{Guessed}
+use Rattle.alphabet.proofs.Masks.{masked-append, masked-le, masked-sound, zeros-lt}
+
+-- ---- numbers
+
+-- a known number's kind has that number
+pub number-kind : (n : ℕ) → n ≤ 5 → numberOf (kindOf n) ≡ n
+unfolding kindOf
+number-kind zero h = refl
+number-kind (suc zero) h = refl
+number-kind (suc (suc zero)) h = refl
+number-kind (suc (suc (suc zero))) h = refl
+number-kind (suc (suc (suc (suc zero)))) h = refl
+number-kind (suc (suc (suc (suc (suc zero))))) h = refl
+number-kind (suc (suc (suc (suc (suc (suc n)))))) h = absurd (omega arith)
+
+-- and a kind's number names that kind
+pub kind-number : (k : AlphabetType) → kindOf (numberOf k) ≡ k
+unfolding kindOf
+kind-number AlphabetType.Dna2bit = refl
+kind-number AlphabetType.Dna3bit = refl
+kind-number AlphabetType.DnaIupac = refl
+kind-number AlphabetType.Protein = refl
+kind-number AlphabetType.Ascii = refl
+kind-number AlphabetType.Unknown = refl
+
+-- a place in the order is the number of the alphabet there
+order-number : (n : ℕ) → n < 5 → numberOf (getD order n Unknown) ≡ n
+order-number zero h = refl
+order-number (suc zero) h = refl
+order-number (suc (suc zero)) h = refl
+order-number (suc (suc (suc zero))) h = refl
+order-number (suc (suc (suc (suc zero)))) h = refl
+order-number (suc (suc (suc (suc (suc n))))) h = absurd (omega arith)
+
+-- ---- names
+
+-- seven bytes, of which the first `len` are the display name
+pub record Spelt (k : AlphabetType) : Type 0 where
+  pub bytes : length (nameOf k .bytes) ≡ 7
+  pub within : nameOf k .len ≤ 7
+  pub front : take (nameOf k .len) (nameOf k .bytes) ≡ displayName k
+
+pub spelt : (k : AlphabetType) → Spelt k
+unfolding nameOf displayName bytesOf
+spelt AlphabetType.Dna2bit = record { bytes = refl; within = lit≤ tt; front = refl }
+spelt AlphabetType.Dna3bit = record { bytes = refl; within = lit≤ tt; front = refl }
+spelt AlphabetType.DnaIupac = record { bytes = refl; within = lit≤ tt; front = refl }
+spelt AlphabetType.Protein = record { bytes = refl; within = lit≤ tt; front = refl }
+spelt AlphabetType.Ascii = record { bytes = refl; within = lit≤ tt; front = refl }
+spelt AlphabetType.Unknown = record { bytes = refl; within = lit≤ tt; front = refl }
+
+-- ---- what answers tell
+
+-- `kind_of_number`
+pub named-told : (n : ℕ) → namedReply (namedAt n) ≡ namedTold n
+unfolding namedAt
+named-told n = go (known n) refl
+  where
+    go : (b : Bool) → leb n 5 ≡ b → namedReply (ask b else Named.Refused Refusal.NoAlphabet then Named.Kind (kindOf n)) ≡ (ask b else refused 8 [] then accepted (n ∷ []))
+    go true e = ap (λ (x : ℕ). accepted (x ∷ [])) (number-kind n (leb-true n 5 e))
+    go false e = refl
+
+-- the guesser's `update`
+pub update-told : (g : AlphabetGuesser) (text : List ℕ) → guesserUpdatedReply (guesserUpdateAt g text) ≡ guesserUpdateTold g text
+unfolding guesserUpdateAt
+update-told g text = go (soundGuesser g)
+  where
+    go : (b : Bool) → guesserUpdatedReply (ask b else GuesserUpdated.Refused Refusal.Unsound g then GuesserUpdated.Next (record { acc = masked (g .acc) text })) ≡ (ask b else refused 1 [] then accepted (masked (g .acc) text ∷ []))
+    go true = refl
+    go false = refl
+
+-- a sound mask is 16 to 31
+pub sound-range : (g : AlphabetGuesser) → soundGuesser g ≡ true → (16 ≤ g .acc) × (g .acc ≤ 31)
+unfolding soundGuesser
+sound-range g e = go (leb 16 (g .acc)) refl (leb (g .acc) 31) refl e
+  where
+    go : (a : Bool) → leb 16 (g .acc) ≡ a → (b : Bool) → leb (g .acc) 31 ≡ b → a && b ≡ true → (16 ≤ g .acc) × (g .acc ≤ 31)
+    go true p true q e = (leb-true 16 (g .acc) p, leb-true (g .acc) 31 q)
+    go true p false q e = absurd (true≢false (sym e))
+    go false p b q e = absurd (true≢false (sym e))
+
+pub range-sound : (g : AlphabetGuesser) → 16 ≤ g .acc → g .acc ≤ 31 → soundGuesser g ≡ true
+unfolding soundGuesser
+range-sound g h l = simp (le-leb 16 (g .acc) h, le-leb (g .acc) 31 l)
+
+-- the guesser's `guess`
+pub guess-told : (g : AlphabetGuesser) → guessedReply (guessAt g) ≡ guessTold g
+unfolding guessAt lowest
+guess-told g = go (soundGuesser g) refl
+  where
+    go : (b : Bool) → soundGuesser g ≡ b → guessedReply (ask b else Guessed.Refused Refusal.Unsound g then Guessed.Kind (getD order (trailingZeros 8 (g .acc)) Unknown)) ≡ (ask b else refused 1 [] then accepted (trailingZeros 8 (g .acc) ∷ []))
+    go true e =
+        let r = sound-range g e in
+        ap (λ (x : ℕ). accepted (x ∷ [])) (order-number (trailingZeros 8 (g .acc)) (zeros-lt (g .acc) (r .0) (r .1)))
+    go false e = refl
+
+-- ---- the guesser's calls
+
+-- a sound state's answers
+pub update-sound : (g : AlphabetGuesser) (text : List ℕ) → soundGuesser g ≡ true → guesserUpdateAt g text ≡ GuesserUpdated.Next (record { acc = masked (g .acc) text })
+unfolding guesserUpdateAt
+update-sound g text e = rw e
+
+pub update-unsound : (g : AlphabetGuesser) (text : List ℕ) → soundGuesser g ≡ false → guesserUpdateAt g text ≡ GuesserUpdated.Refused Refusal.Unsound g
+unfolding guesserUpdateAt
+update-unsound g text e = rw e
+
+pub guess-unsound : (g : AlphabetGuesser) → soundGuesser g ≡ false → guessAt g ≡ Guessed.Refused Refusal.Unsound g
+unfolding guessAt
+guess-unsound g e = rw e
+
+pub guess-sound : (g : AlphabetGuesser) → soundGuesser g ≡ true → guessAt g ≡ Guessed.Kind (lowest (g .acc))
+unfolding guessAt
+guess-sound g e = rw e
+
+-- both clauses of a contract follow from the first
+pub named-whole : (r : Named) (n : ℕ) → r ≡ namedAt n → (r ≡ namedAt n) × (namedReply r ≡ namedTold n)
+named-whole r n e = (e, ap namedReply e ∙ named-told n)
+
+pub update-whole : (r : GuesserUpdated) (g : AlphabetGuesser) (text : List ℕ) → r ≡ guesserUpdateAt g text → (r ≡ guesserUpdateAt g text) × (guesserUpdatedReply r ≡ guesserUpdateTold g text)
+update-whole r g text e = (e, ap guesserUpdatedReply e ∙ update-told g text)
+
+pub guess-whole : (r : Guessed) (g : AlphabetGuesser) → r ≡ guessAt g → (r ≡ guessAt g) × (guessedReply r ≡ guessTold g)
+guess-whole r g e = (e, ap guessedReply e ∙ guess-told g)
+
+-- a sound state stays sound
+pub stays-sound : (g : AlphabetGuesser) (text : List ℕ) → Bytes text → soundGuesser g ≡ true → soundGuesser (record { acc = masked (g .acc) text }) ≡ true
+stays-sound g text bytes e =
+    let r = sound-range g e in
+    range-sound (record { acc = masked (g .acc) text }) (masked-sound (g .acc) text bytes (r .0) (r .1)) (omega (arith, masked-le (g .acc) text, r .1))
+
+-- an update by a piece and then by another is one by the two joined
+pub update-pieces : (g : AlphabetGuesser) (a b : List ℕ) → Bytes a → soundGuesser g ≡ true → guesserUpdateAt (record { acc = masked (g .acc) a }) b ≡ guesserUpdateAt g (a ++ b)
+update-pieces g a b bytes e =
+    update-sound (record { acc = masked (g .acc) a }) b (stays-sound g a bytes e)
+    ∙ ap (λ (m : ℕ). GuesserUpdated.Next (record { acc = m })) (sym (masked-append (g .acc) a b))
+    ∙ sym (update-sound g (a ++ b) e)
+
+-- a fresh guesser takes any text, and then guesses as `guess_alphabet`
+module _ (text : List ℕ) (bytes : Bytes text) where
+  abbrev pub after-text : AlphabetGuesser
+  after-text = record { acc = masked 31 text }
+
+  fresh-sound : soundGuesser freshGuesser ≡ true
+  unfolding freshGuesser
+  fresh-sound = range-sound freshGuesser (lit≤ tt) (lit≤ tt)
+
+  pub fresh-update : (u : GuesserUpdated) (g : AlphabetGuesser) → g ≡ freshGuesser → u ≡ guesserUpdateAt g text → u ≡ GuesserUpdated.Next after-text
+  unfolding freshGuesser
+  fresh-update u g e f = f ∙ ap (λ (x : AlphabetGuesser). guesserUpdateAt x text) e ∙ update-sound freshGuesser text fresh-sound
+
+  pub fresh-guess : (u : Guessed) (g : AlphabetGuesser) → g ≡ after-text → u ≡ guessAt g → u ≡ Guessed.Kind (guessOf text)
+  unfolding freshGuesser guessOf
+  fresh-guess u g e f = f ∙ ap guessAt e ∙ guess-sound after-text (stays-sound freshGuesser text bytes fresh-sound)
+
+-- ---- an answer is one of its cases
+
+pub next-only : {u : GuesserUpdated} {a b : AlphabetGuesser} {q : Refusal} → u ≡ GuesserUpdated.Next a → u ≡ GuesserUpdated.Refused q b → ⊥
+next-only e f = let z : _≡_ {A = ℕ} 0 1 = cc in omega arith
+
+pub next-same : {u : GuesserUpdated} {a b : AlphabetGuesser} → u ≡ GuesserUpdated.Next a → u ≡ GuesserUpdated.Next b → a ≡ b
+next-same e f = cc
+
+pub kind-only : {u : Guessed} {k : AlphabetType} {b : AlphabetGuesser} {q : Refusal} → u ≡ Guessed.Kind k → u ≡ Guessed.Refused q b → ⊥
+kind-only e f = let z : _≡_ {A = ℕ} 0 1 = cc in omega arith
+
+pub kind-same : {u : Guessed} {k l : AlphabetType} → u ≡ Guessed.Kind k → u ≡ Guessed.Kind l → k ≡ l
+kind-same e f = cc

@@ -1,0 +1,171 @@
+-- The laws of symbols and codes that the crates above cite. They open no definition of this crate: what they know of an alphabet stands here.
+use mathlib.Core.Path.{_≡_, refl, sym, ap, _∙_}
+use mathlib.Core.Bool.{Bool, true, false, not}
+use mathlib.Core.List.{List, map}
+use mathlib.Core.Logic.{_⊎_, inl, inr}
+use Prim.Native.Char.{code as ascii}
+use Prim.Native.Nat.{ℕ, _+_, _^_, _≤_, _<_}
+use native.Mathlib.Nat.{pow-le-pow-right}
+use native.Mathlib.Omega.{arith}
+use borrow.Author.Tests.{ltb-true, lt-ltb, eq-eqb, ne-eqb}
+use lib.Dec.{T, eqb, ltb, eqb→eq, lit≤, lit<}
+use Rattle.bits.proofs.Computed.{below, T-true}
+use Rattle.alphabet.specs.declared.kind.AlphabetType.{AlphabetType}
+use Rattle.alphabet.specs.declared.kind.AlphabetType.the-variants.{Dna2bit, Dna3bit, DnaIupac, Protein, Ascii, Unknown}
+use Rattle.alphabet.specs.Symbols.{bytesOf, coded, dna2bit, dna3bit, dnaIupac, protein, symbolOf, codeOf, among, found, Coding, canon, listed, plain, coding, checkSymbols}
+use Rattle.alphabet.proofs.Pairs.{found-none, found-among, found-back, found-fits, symbols-apart, codes-apart}
+
+-- ---- the check of the four lists, computed
+
+pub record ListsChecked : Type 0 where
+  pub of-dna2bit : T (checkSymbols 2 dna2bit)
+  pub of-dna3bit : T (checkSymbols 3 dna3bit)
+  pub of-dnaIupac : T (checkSymbols 4 dnaIupac)
+  pub of-protein : T (checkSymbols 5 protein)
+
+pub lists-checked : ListsChecked
+unfolding checkSymbols among dna2bit dna3bit dnaIupac protein coded bytesOf
+lists-checked = record { of-dna2bit = tt; of-dna3bit = tt; of-dnaIupac = tt; of-protein = tt }
+
+-- ---- every alphabet
+
+pub record Lawful (A : Coding) : Type 0 where
+  -- the width is 1 to 8
+  pub some-bits : 0 < A .width
+  pub narrow : A .width ≤ 8
+  -- a member's code fits the width, and its symbol is what the byte stands for
+  pub fits : (v : ℕ) → A .member v ≡ true → A .code v < 2 ^ A .width
+  pub back : (v : ℕ) → A .member v ≡ true → A .symbol (A .code v) ≡ A .canon v
+  -- no code belongs to two symbols
+  pub one-code : (v w : ℕ) → A .member v ≡ true → A .member w ≡ true → A .code v ≡ A .code w → A .canon v ≡ A .canon w
+
+one-of-back : (A : Coding) → ((v : ℕ) → A .member v ≡ true → A .symbol (A .code v) ≡ A .canon v)
+    → (v w : ℕ) → A .member v ≡ true → A .member w ≡ true → A .code v ≡ A .code w → A .canon v ≡ A .canon w
+one-of-back A back v w m n e = sym (back v m) ∙ ap (A .symbol) e ∙ back w n
+
+listed-lawful : (b : ℕ) (pairs : List (List ℕ)) (other : ℕ) → 0 < b → b ≤ 8 → T (checkSymbols b pairs) → Lawful (listed b pairs other)
+unfolding listed
+listed-lawful b pairs other some narrow t =
+    let back : (v : ℕ) → among (map symbolOf pairs) (canon v) ≡ true → found codeOf symbolOf other pairs (found symbolOf codeOf 0xff pairs (canon v)) ≡ canon v =
+    λ v m. found-back symbolOf codeOf 0xff other pairs (canon v) (codes-apart b pairs t) m in
+    record {
+      some-bits = some;
+      narrow = narrow;
+      fits = λ v m. found-fits b 0xff pairs t (canon v) m;
+      back = back;
+      one-code = one-of-back (listed b pairs other) back;
+    }
+
+plain-lawful : Lawful plain
+unfolding plain
+plain-lawful =
+    record {
+      some-bits = lit< tt;
+      narrow = lit≤ tt;
+      fits = λ v m. ltb-true v 256 m;
+      back = λ v m. refl;
+      one-code = λ v w m n e. e;
+    }
+
+pub lawful : (k : AlphabetType) → Lawful (coding k)
+unfolding coding
+lawful Dna2bit = listed-lawful 2 dna2bit _ (lit< tt) (lit≤ tt) (lists-checked .of-dna2bit)
+lawful Dna3bit = listed-lawful 3 dna3bit _ (lit< tt) (lit≤ tt) (lists-checked .of-dna3bit)
+lawful DnaIupac = listed-lawful 4 dnaIupac _ (lit< tt) (lit≤ tt) (lists-checked .of-dnaIupac)
+lawful Protein = listed-lawful 5 protein _ (lit< tt) (lit≤ tt) (lists-checked .of-protein)
+lawful Ascii = plain-lawful
+lawful Unknown = plain-lawful
+
+-- ---- the four packed alphabets, and the two plain ones
+
+pub record Packed (A : Coding) : Type 0 where
+  -- a code is below 32
+  pub five : A .width ≤ 5
+  -- a non-member's entry is FF, and no member's is
+  pub none : (v : ℕ) → A .member v ≡ false → A .code v ≡ 0xff
+  pub told : (v : ℕ) → A .member v ≡ not (eqb (A .code v) 0xff)
+
+pub record Plain (A : Coding) : Type 0 where
+  pub eight : A .width ≡ 8
+  -- every byte is a member, stands for itself and is its own code
+  pub all : (v : ℕ) → v < 256 → A .member v ≡ true
+  pub itself : (v : ℕ) → A .canon v ≡ v
+  pub same-code : (v : ℕ) → A .code v ≡ v
+  pub same-symbol : (c : ℕ) → A .symbol c ≡ c
+
+listed-packed : (b : ℕ) (pairs : List (List ℕ)) (other : ℕ) → b ≤ 5 → T (checkSymbols b pairs) → Packed (listed b pairs other)
+unfolding listed
+listed-packed b pairs other five t = record { five = five; none = λ v m. found-none symbolOf codeOf 0xff pairs (canon v) m; told = λ v. go (canon v) (among (map symbolOf pairs) (canon v)) refl }
+  where
+    go : (x : ℕ) (m : Bool) → among (map symbolOf pairs) x ≡ m → m ≡ not (eqb (found symbolOf codeOf 0xff pairs x) 0xff)
+    go x true e =
+        let fit : found symbolOf codeOf 0xff pairs x < 2 ^ b = found-fits b 0xff pairs t x e in
+        let small : 2 ^ b ≤ 2 ^ 5 = pow-le-pow-right {n = 2} (lit< tt) five in
+        sym (ap not (ne-eqb (found symbolOf codeOf 0xff pairs x) 0xff (λ q. omega arith)))
+    go x false e = sym (ap not (eq-eqb (found symbolOf codeOf 0xff pairs x) 0xff (found-none symbolOf codeOf 0xff pairs x e)))
+
+plain-plain : Plain plain
+unfolding plain
+plain-plain = record { eight = refl; all = λ v h. lt-ltb v 256 h; itself = λ v. refl; same-code = λ v. refl; same-symbol = λ c. refl }
+
+pub shape : (k : AlphabetType) → Packed (coding k) ⊎ Plain (coding k)
+unfolding coding
+shape Dna2bit = inl (listed-packed 2 dna2bit _ (lit≤ tt) (lists-checked .of-dna2bit))
+shape Dna3bit = inl (listed-packed 3 dna3bit _ (lit≤ tt) (lists-checked .of-dna3bit))
+shape DnaIupac = inl (listed-packed 4 dnaIupac _ (lit≤ tt) (lists-checked .of-dnaIupac))
+shape Protein = inl (listed-packed 5 protein _ (lit≤ tt) (lists-checked .of-protein))
+shape Ascii = inr plain-plain
+shape Unknown = inr plain-plain
+
+-- ---- exactly which bytes are members
+
+pub record Members : Type 0 where
+  pub of-dna2bit : (v : ℕ) → coding Dna2bit .member v ≡ among (bytesOf "TCAG") (coding Dna2bit .canon v)
+  pub of-dna3bit : (v : ℕ) → coding Dna3bit .member v ≡ among (bytesOf "ACGTNRYU") (coding Dna3bit .canon v)
+  pub of-dnaIupac : (v : ℕ) → coding DnaIupac .member v ≡ among (bytesOf "NACMGRSKTWYUBDHV") (coding DnaIupac .canon v)
+  pub of-protein : (v : ℕ) → coding Protein .member v ≡ among (bytesOf "ACDEFGHIKLMNPQRSTVWY*X-.UBZOJ") (coding Protein .canon v)
+  pub of-ascii : (v : ℕ) → coding Ascii .member v ≡ ltb v 256
+  pub of-unknown : (v : ℕ) → coding Unknown .member v ≡ ltb v 256
+
+pub members : Members
+unfolding coding listed plain among dna2bit dna3bit dnaIupac protein coded bytesOf
+members =
+    record {
+      of-dna2bit = λ v. refl;
+      of-dna3bit = λ v. refl;
+      of-dnaIupac = λ v. refl;
+      of-protein = λ v. refl;
+      of-ascii = λ v. refl;
+      of-unknown = λ v. refl;
+    }
+
+-- ---- assigned codes: no symbol has two, and those of Protein end at 28
+
+-- the codes 0 to n - 1 have symbols, each a member, whose code it is
+pub Assigned : Coding → ℕ → Type 0
+Assigned A n = (c : ℕ) → c < n → (A .member (A .symbol c) ≡ true) × (A .code (A .symbol c) ≡ c)
+
+listed-assigned : (b : ℕ) (pairs : List (List ℕ)) (other n : ℕ) → T (checkSymbols b pairs) → ((c : ℕ) → c < n → T (among (map codeOf pairs) c)) → Assigned (listed b pairs other) n
+unfolding listed canon Assigned
+listed-assigned b pairs other n t h c l =
+    let m : among (map codeOf pairs) c ≡ true = T-true (among (map codeOf pairs) c) (h c l) in
+    (found-among codeOf symbolOf other pairs c m, found-back codeOf symbolOf other 0xff pairs c (symbols-apart b pairs t) m)
+
+pub record AssignedCodes : Type 0 where
+  pub of-dna2bit : Assigned (coding Dna2bit) 4
+  pub of-dna3bit : Assigned (coding Dna3bit) 8
+  pub of-dnaIupac : Assigned (coding DnaIupac) 16
+  pub of-protein : Assigned (coding Protein) 29
+  -- unassigned codes decode to X
+  pub past-protein : (i : ℕ) → i < 3 → coding Protein .symbol (29 + i) ≡ ascii "X"
+
+pub assigned-codes : AssignedCodes
+unfolding coding listed among found dna2bit dna3bit dnaIupac protein coded bytesOf
+assigned-codes =
+    record {
+      of-dna2bit = listed-assigned 2 dna2bit _ 4 (lists-checked .of-dna2bit) (below (among (map codeOf dna2bit)) 4 tt);
+      of-dna3bit = listed-assigned 3 dna3bit _ 8 (lists-checked .of-dna3bit) (below (among (map codeOf dna3bit)) 8 tt);
+      of-dnaIupac = listed-assigned 4 dnaIupac _ 16 (lists-checked .of-dnaIupac) (below (among (map codeOf dnaIupac)) 16 tt);
+      of-protein = listed-assigned 5 protein _ 29 (lists-checked .of-protein) (below (among (map codeOf protein)) 29 tt);
+      past-protein = λ i h. eqb→eq (coding Protein .symbol (29 + i)) (ascii "X") (below (λ j. eqb (coding Protein .symbol (29 + j)) (ascii "X")) 3 tt i h);
+    }

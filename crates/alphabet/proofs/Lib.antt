@@ -1,0 +1,5 @@
+pub mod Pairs
+pub mod Laws
+pub mod Masks
+pub mod Calls
+pub mod Turns

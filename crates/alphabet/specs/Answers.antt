@@ -1,0 +1,39 @@
+-- Answers by number. States document 01, "Code places and language forms", its last rule: for each answer that is an enum, the number and the values of
+-- its cases, and then what the call tells in these terms. A state that comes back on a refusal is told by the call's own definition.
+use Prim.Native.Nat.{ℕ}
+use mathlib.Core.List.{List, [], _∷_}
+use lib.Count.{trailingZeros}
+use Rattle.alphabet.specs.Questions.{ask_else_then_, Reply, accepted, refused, refusalReply}
+use Rattle.alphabet.specs.Names.{numberOf, known}
+use Rattle.alphabet.specs.Guess.{masked, soundGuesser}
+use Rattle.alphabet.specs.declared.kind.Named.{Named}
+use Rattle.alphabet.specs.declared.guesser.AlphabetGuesser.{AlphabetGuesser}
+use Rattle.alphabet.specs.declared.guesser.GuesserUpdated.{GuesserUpdated}
+use Rattle.alphabet.specs.declared.guesser.Guessed.{Guessed}
+
+-- `kind_of_number`: the kind's number
+abbrev pub namedReply : Named → Reply
+namedReply (Named.Kind k) = accepted (numberOf k ∷ [])
+namedReply (Named.Refused q) = refusalReply q
+
+-- it is the number asked about
+abbrev pub namedTold : ℕ → Reply
+namedTold number = ask known number else refused 8 [] then accepted (number ∷ [])
+
+-- the guesser's `update`: the next mask
+abbrev pub guesserUpdatedReply : GuesserUpdated → Reply
+guesserUpdatedReply (GuesserUpdated.Next g) = accepted (g .acc ∷ [])
+guesserUpdatedReply (GuesserUpdated.Refused q g) = refusalReply q
+
+-- it is the mask ANDed with each byte's
+abbrev pub guesserUpdateTold : AlphabetGuesser → List ℕ → Reply
+guesserUpdateTold g text = ask soundGuesser g else refused 1 [] then accepted (masked (g .acc) text ∷ [])
+
+-- the guesser's `guess`: the alphabet's number
+abbrev pub guessedReply : Guessed → Reply
+guessedReply (Guessed.Kind k) = accepted (numberOf k ∷ [])
+guessedReply (Guessed.Refused q g) = refusalReply q
+
+-- it is the count of the mask's trailing zero bits, since the order of the alphabets is that of their numbers
+abbrev pub guessTold : AlphabetGuesser → Reply
+guessTold g = ask soundGuesser g else refused 1 [] then accepted (trailingZeros 8 (g .acc) ∷ [])

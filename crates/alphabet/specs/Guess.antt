@@ -1,0 +1,80 @@
+-- The guesser. States document 01, "Leaf 2: the guesser", the mask of "Leaf 1", and question 4 for the guesser.
+use Prim.Native.Nat.{ℕ, _+_, _*_, _/_, _%_, _^_}
+use mathlib.Core.Bool.{Bool, true, cond, _&&_}
+use mathlib.Core.List.{List, [], _∷_}
+use lib.Bits.{bitAnd}
+use lib.Count.{trailingZeros}
+use lib.Dec.{leb, eqb}
+use lib.ListN.{getD}
+use Rattle.alphabet.specs.Questions.{ask_else_then_}
+use Rattle.alphabet.specs.Symbols.{Coding, coding}
+use Rattle.alphabet.specs.declared.kind.AlphabetType.{AlphabetType}
+use Rattle.alphabet.specs.declared.kind.AlphabetType.the-variants.{Dna2bit, Dna3bit, DnaIupac, Protein, Ascii, Unknown}
+use Rattle.alphabet.specs.declared.guesser.AlphabetGuesser.{AlphabetGuesser}
+use Rattle.alphabet.specs.declared.guesser.GuesserUpdated.{GuesserUpdated}
+use Rattle.alphabet.specs.declared.guesser.Guessed.{Guessed}
+use Rattle.alphabet.specs.declared.refusal.Refusal.{Refusal}
+
+-- ---- masks
+
+-- the alphabets that the guesser tries, in order
+abbrev pub order : List AlphabetType
+order = Dna2bit ∷ Dna3bit ∷ DnaIupac ∷ Protein ∷ Ascii ∷ []
+
+-- whether bit i of a number is set, bit 0 being the lowest
+abbrev pub isSet : ℕ → ℕ → Bool
+isSet i m = eqb (m / 2 ^ i % 2) 1
+
+-- the number whose bit i is set exactly when alphabet i of a list holds the byte v
+unfoldable pub holders : List AlphabetType → ℕ → ℕ
+holders [] v = 0
+holders (k ∷ ks) v = cond (coding k .member v) 1 0 + 2 * holders ks v
+
+-- a byte's entry in `ALPHABET_MASK`
+unfoldable pub maskOf : ℕ → ℕ
+maskOf v = holders order v
+
+-- a mask once each byte's mask is ANDed to it
+unfoldable pub masked : ℕ → List ℕ → ℕ
+masked m [] = m
+masked m (v ∷ text) = masked (bitAnd m (maskOf v)) text
+
+-- the alphabet whose place in the order is the count of a mask's trailing zero bits; a sound mask has one
+unfoldable pub lowest : ℕ → AlphabetType
+lowest m = getD order (trailingZeros 8 m) Unknown
+
+-- ---- the guess for a text
+
+-- `guess_alphabet`: the mask starts at 31
+unfoldable pub guessOf : List ℕ → AlphabetType
+guessOf text = lowest (masked 31 text)
+
+-- whether an alphabet holds every byte of a text
+unfoldable pub holdsAll : AlphabetType → List ℕ → Bool
+holdsAll k [] = true
+holdsAll k (v ∷ text) = coding k .member v && holdsAll k text
+
+-- the first alphabet of a list that holds every byte of a text
+unfoldable pub firstHolding : List AlphabetType → List ℕ → AlphabetType
+firstHolding [] text = Unknown
+firstHolding (k ∷ ks) text = cond (holdsAll k text) k (firstHolding ks text)
+
+-- ---- the guesser's calls
+
+-- `new`: a guesser that has seen nothing
+unfoldable pub freshGuesser : AlphabetGuesser
+freshGuesser = record { acc = 31 }
+
+-- question 4: is the mask 16 to 31?
+unfoldable pub soundGuesser : AlphabetGuesser → Bool
+soundGuesser g = leb 16 (g .acc) && leb (g .acc) 31
+
+-- `update`: the state after a text
+unfoldable pub guesserUpdateAt : AlphabetGuesser → List ℕ → GuesserUpdated
+guesserUpdateAt g text =
+    ask soundGuesser g else GuesserUpdated.Refused Refusal.Unsound g then
+    GuesserUpdated.Next (record { acc = masked (g .acc) text })
+
+-- `guess`: the alphabet of the state's mask
+unfoldable pub guessAt : AlphabetGuesser → Guessed
+guessAt g = ask soundGuesser g else Guessed.Refused Refusal.Unsound g then Guessed.Kind (lowest (g .acc))

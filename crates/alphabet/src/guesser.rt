@@ -1,0 +1,118 @@
+// The guesser: the first alphabet in the order that holds every byte of a text.
+use crate::kind::AlphabetType;
+use crate::mask::ALPHABET_ORDER;
+use crate::mask::alphabet_mask;
+use crate::refusal::Refusal;
+use bits::place;
+ghost use mathlib.Core.Path.{_≡_};
+ghost use Prim.Native.Nat.{_≤_};
+ghost use Rattle.alphabet.specs.Guess.{freshGuesser, soundGuesser, masked, guesserUpdateAt, guessAt, guessOf};
+ghost use Rattle.alphabet.specs.Answers.{guesserUpdatedReply, guesserUpdateTold, guessedReply, guessTold};
+
+// The mask while every alphabet is possible.
+const ALL_ALPHABETS: u8 = 31;
+
+// The mask once only Ascii remains.
+const ASCII_BIT: u8 = 16;
+
+// How many bytes the outer loop hands to the inner one.
+const GUESS_CHUNK: usize = 4096;
+
+// The guesser's state: bit i of `acc` is set while alphabet i of ALPHABET_ORDER can hold every byte seen.
+pub struct AlphabetGuesser {
+    pub acc: u8,
+}
+
+// What `update` answers.
+pub enum GuesserUpdated {
+    Next(AlphabetGuesser),
+    Refused(Refusal, AlphabetGuesser),
+}
+
+// What `guess` answers.
+pub enum Guessed {
+    Kind(AlphabetType),
+    Refused(Refusal, AlphabetGuesser),
+}
+
+impl AlphabetGuesser {
+    // A guesser that has seen nothing.
+    pub fn new() -> Self
+        ensures { λ r. ⌜ r ≡ freshGuesser ⌝ }
+    {
+        AlphabetGuesser { acc: ALL_ALPHABETS }
+    }
+
+    // Question 4: is the mask 16 to 31?
+    fn is_sound(self) -> bool
+        ensures { λ r. ⌜ r ≡ soundGuesser self ⌝ }
+    {
+        ASCII_BIT <= self.acc && self.acc <= ALL_ALPHABETS
+    }
+
+    // The state after a text; an unsound state is refused by 1 and comes back as it was.
+    pub fn update(self, sequence: &[u8]) -> GuesserUpdated
+        ensures { λ r. ⌜ r ≡ guesserUpdateAt self (now (sequence .entry)) ⌝ }
+        ensures told { λ r. ⌜ guesserUpdatedReply r ≡ guesserUpdateTold self (now (sequence .entry)) ⌝ }
+    {
+        if !self.is_sound() {
+            return GuesserUpdated::Refused(Refusal::Unsound, self);
+        }
+        let acc = self.acc;
+        if acc == ASCII_BIT {
+            return GuesserUpdated::Next(self);
+        }
+        GuesserUpdated::Next(AlphabetGuesser {
+            acc: scan(acc, sequence),
+        })
+    }
+
+    // The alphabet whose place in the order is the count of the mask's trailing zero bits; an unsound state is refused by 1.
+    pub fn guess(self) -> Guessed
+        ensures { λ r. ⌜ r ≡ guessAt self ⌝ }
+        ensures told { λ r. ⌜ guessedReply r ≡ guessTold self ⌝ }
+    {
+        if !self.is_sound() {
+            return Guessed::Refused(Refusal::Unsound, self);
+        }
+        let i = u8::trailing_zeros(self.acc) as usize;
+        Guessed::Kind(ALPHABET_ORDER[i])
+    }
+}
+
+// A sound mask once each byte's mask is ANDed to it, up to the byte after which only Ascii remains: no later one changes it.
+fn scan(mask: u8, sequence: &[u8]) -> u8
+    requires { ⌜ (16 ≤ mask) × (mask ≤ 31) ⌝ }
+    ensures { λ r. ⌜ r ≡ masked mask (now (sequence .entry)) ⌝ }
+{
+    let masks = alphabet_mask();
+    let mut acc = mask;
+    let mut at = 0;
+    'scan: while at < sequence.len() {
+        let mut end = sequence.len();
+        if GUESS_CHUNK < end - at {
+            end = at + GUESS_CHUNK;
+        }
+        for i in at..end {
+            acc = acc & masks[place(sequence[i])];
+            if acc == ASCII_BIT {
+                break 'scan;
+            }
+        }
+        at = end;
+    }
+    acc
+}
+
+// The guess for a whole text.
+pub fn guess_alphabet(sequence: &[u8]) -> AlphabetType
+    ensures { λ r. ⌜ r ≡ guessOf (now (sequence .entry)) ⌝ }
+{
+    let GuesserUpdated::Next(next) = AlphabetGuesser::new().update(sequence) else {
+        return AlphabetType::Unknown;
+    };
+    let Guessed::Kind(kind) = next.guess() else {
+        return AlphabetType::Unknown;
+    };
+    kind
+}

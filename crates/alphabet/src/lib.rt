@@ -1,0 +1,21 @@
+// The alphabets: symbols and codes, names and numbers, and the guess of a text's alphabet.
+mod guesser;
+mod kind;
+mod mask;
+mod refusal;
+mod symbols;
+
+pub use guesser::AlphabetGuesser;
+pub use guesser::Guessed;
+pub use guesser::GuesserUpdated;
+pub use guesser::guess_alphabet;
+pub use kind::AlphabetType;
+pub use kind::Name;
+pub use kind::Named;
+pub use kind::kind_of_number;
+pub use mask::ALPHABET_ORDER;
+pub use refusal::Refusal;
+pub use symbols::INVALID_CODE;
+pub use symbols::contains;
+pub use symbols::decoding_array;
+pub use symbols::encoding_array;

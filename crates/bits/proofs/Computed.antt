@@ -1,0 +1,29 @@
+-- A test that is computed at each number below n, and the rule that it gives.
+use mathlib.Core.Path.{_≡_, refl, _∙_, subst, sym}
+use mathlib.Core.Bool.{Bool, true, false, _&&_}
+use Prim.Native.Nat.{ℕ, zero, suc, _+_, _<_}
+use native.Mathlib.Nat.{add-zero, zero-add, add-suc, suc-add, le-of-suc-le-suc, not-suc-le-zero}
+use lib.Dec.{T}
+
+pub T-true : (b : Bool) → T b → b ≡ true
+T-true true t = refl
+T-true false t = absurd t
+
+-- both of two tests
+pub both : (a b : Bool) → T (a && b) → T a × T b
+both true b t = (tt, t)
+both false b t = absurd t
+
+-- the test passes at the n numbers from i on
+abbrev pub passes : (ℕ → Bool) → ℕ → ℕ → Bool
+passes f i zero = true
+passes f i (suc n) = f i && passes f (suc i) n
+
+from : (f : ℕ → Bool) (n i : ℕ) → T (passes f i n) → (k : ℕ) → k < n → T (f (i + k))
+from f zero i t k h = absurd (not-suc-le-zero h)
+from f (suc n) i t zero h = subst (λ (m : ℕ). T (f m)) (sym (add-zero i)) (both (f i) (passes f (suc i) n) t .0)
+from f (suc n) i t (suc k) h =
+    subst (λ (m : ℕ). T (f m)) (suc-add i k ∙ sym (add-suc i k)) (from f n (suc i) (both (f i) (passes f (suc i) n) t .1) k (le-of-suc-le-suc h))
+
+pub below : (f : ℕ → Bool) (n : ℕ) → T (passes f 0 n) → (k : ℕ) → k < n → T (f k)
+below f n t k h = subst (λ (m : ℕ). T (f m)) (zero-add k) (from f n 0 t k h)

@@ -1,0 +1,2 @@
+pub mod Tabulated
+pub mod Computed
