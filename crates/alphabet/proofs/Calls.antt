@@ -10,7 +10,7 @@ use lib.Dec.{leb, lit≤}
 use lib.ListN.{length, getD, take}
 use Rattle.alphabet.specs.Symbols.{bytesOf}
 use Rattle.bits.specs.Tables.{Bytes}
-use Rattle.alphabet.specs.Questions.{ask_else_then_, accepted, refused}
+use Rattle.alphabet.specs.Questions.{ask_else_then_, accepted, refused, by, refusalReply}
 use Rattle.alphabet.specs.declared.refusal.Refusal.{Refusal}
 use Rattle.alphabet.specs.Names.{displayName, nameOf, numberOf, known, kindOf, namedAt}
 use Rattle.alphabet.specs.Guess.{order, masked, lowest, guessOf, freshGuesser, soundGuesser, guesserUpdateAt, guessAt}
@@ -24,6 +24,32 @@ use Rattle.alphabet.specs.declared.guesser.Guessed.{Guessed}
 use Rattle.alphabet.proofs.Masks.{masked-append, masked-le, masked-sound, zeros-lt}
 
 -- ---- numbers
+
+-- the refusal that definitions write by a number and its values tells just these
+pub record Numbered : Type 0 where
+  pub told-1 : refusalReply (by 1 []) ≡ refused 1 []
+  pub told-2 : refusalReply (by 2 []) ≡ refused 2 []
+  pub told-3 : refusalReply (by 3 []) ≡ refused 3 []
+  pub told-4 : refusalReply (by 4 []) ≡ refused 4 []
+  pub told-5 : (position byte : ℕ) → refusalReply (by 5 (position ∷ byte ∷ [])) ≡ refused 5 (position ∷ byte ∷ [])
+  pub told-6 : refusalReply (by 6 []) ≡ refused 6 []
+  pub told-7 : (bases : ℕ) → refusalReply (by 7 (bases ∷ [])) ≡ refused 7 (bases ∷ [])
+  pub told-8 : refusalReply (by 8 []) ≡ refused 8 []
+  pub told-9 : refusalReply (by 9 []) ≡ refused 9 []
+
+pub numbered : Numbered
+numbered =
+    record {
+      told-1 = refl;
+      told-2 = refl;
+      told-3 = refl;
+      told-4 = refl;
+      told-5 = λ position byte. refl;
+      told-6 = refl;
+      told-7 = λ bases. refl;
+      told-8 = refl;
+      told-9 = refl;
+    }
 
 -- a known number's kind has that number
 pub number-kind : (n : ℕ) → n ≤ 5 → numberOf (kindOf n) ≡ n
@@ -79,7 +105,7 @@ pub named-told : (n : ℕ) → namedReply (namedAt n) ≡ namedTold n
 unfolding namedAt
 named-told n = go (known n) refl
   where
-    go : (b : Bool) → leb n 5 ≡ b → namedReply (ask b else Named.Refused Refusal.NoAlphabet then Named.Kind (kindOf n)) ≡ (ask b else refused 8 [] then accepted (n ∷ []))
+    go : (b : Bool) → leb n 5 ≡ b → namedReply (ask b else Named.Refused (by 8 []) then Named.Kind (kindOf n)) ≡ (ask b else refused 8 [] then accepted (n ∷ []))
     go true e = ap (λ (x : ℕ). accepted (x ∷ [])) (number-kind n (leb-true n 5 e))
     go false e = refl
 
@@ -88,7 +114,7 @@ pub update-told : (g : AlphabetGuesser) (text : List ℕ) → guesserUpdatedRepl
 unfolding guesserUpdateAt
 update-told g text = go (soundGuesser g)
   where
-    go : (b : Bool) → guesserUpdatedReply (ask b else GuesserUpdated.Refused Refusal.Unsound g then GuesserUpdated.Next (record { acc = masked (g .acc) text })) ≡ (ask b else refused 1 [] then accepted (masked (g .acc) text ∷ []))
+    go : (b : Bool) → guesserUpdatedReply (ask b else GuesserUpdated.Refused (by 1 []) g then GuesserUpdated.Next (record { acc = masked (g .acc) text })) ≡ (ask b else refused 1 [] then accepted (masked (g .acc) text ∷ []))
     go true = refl
     go false = refl
 
@@ -111,7 +137,7 @@ pub guess-told : (g : AlphabetGuesser) → guessedReply (guessAt g) ≡ guessTol
 unfolding guessAt lowest
 guess-told g = go (soundGuesser g) refl
   where
-    go : (b : Bool) → soundGuesser g ≡ b → guessedReply (ask b else Guessed.Refused Refusal.Unsound g then Guessed.Kind (getD order (trailingZeros 8 (g .acc)) Unknown)) ≡ (ask b else refused 1 [] then accepted (trailingZeros 8 (g .acc) ∷ []))
+    go : (b : Bool) → soundGuesser g ≡ b → guessedReply (ask b else Guessed.Refused (by 1 []) g then Guessed.Kind (getD order (trailingZeros 8 (g .acc)) Unknown)) ≡ (ask b else refused 1 [] then accepted (trailingZeros 8 (g .acc) ∷ []))
     go true e =
         let r = sound-range g e in
         ap (λ (x : ℕ). accepted (x ∷ [])) (order-number (trailingZeros 8 (g .acc)) (zeros-lt (g .acc) (r .0) (r .1)))
@@ -124,11 +150,11 @@ pub update-sound : (g : AlphabetGuesser) (text : List ℕ) → soundGuesser g �
 unfolding guesserUpdateAt
 update-sound g text e = rw e
 
-pub update-unsound : (g : AlphabetGuesser) (text : List ℕ) → soundGuesser g ≡ false → guesserUpdateAt g text ≡ GuesserUpdated.Refused Refusal.Unsound g
+pub update-unsound : (g : AlphabetGuesser) (text : List ℕ) → soundGuesser g ≡ false → guesserUpdateAt g text ≡ GuesserUpdated.Refused (by 1 []) g
 unfolding guesserUpdateAt
 update-unsound g text e = rw e
 
-pub guess-unsound : (g : AlphabetGuesser) → soundGuesser g ≡ false → guessAt g ≡ Guessed.Refused Refusal.Unsound g
+pub guess-unsound : (g : AlphabetGuesser) → soundGuesser g ≡ false → guessAt g ≡ Guessed.Refused (by 1 []) g
 unfolding guessAt
 guess-unsound g e = rw e
 

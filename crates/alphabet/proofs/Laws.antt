@@ -13,7 +13,7 @@ use Rattle.bits.proofs.Computed.{below, T-true}
 use Rattle.alphabet.specs.declared.kind.AlphabetType.{AlphabetType}
 use Rattle.alphabet.specs.declared.kind.AlphabetType.the-variants.{Dna2bit, Dna3bit, DnaIupac, Protein, Ascii, Unknown}
 use Rattle.alphabet.specs.Symbols.{bytesOf, coded, dna2bit, dna3bit, dnaIupac, protein, symbolOf, codeOf, among, found, Coding, canon, listed, plain, coding, checkSymbols}
-use Rattle.alphabet.proofs.Pairs.{found-none, found-among, found-back, found-fits, symbols-apart, codes-apart}
+use Rattle.alphabet.proofs.Pairs.{found-none, found-among, found-back, found-fits, among-byte, symbols-apart, codes-apart}
 
 -- ---- the check of the four lists, computed
 
@@ -33,6 +33,8 @@ pub record Lawful (A : Coding) : Type 0 where
   -- the width is 1 to 8
   pub some-bits : 0 < A .width
   pub narrow : A .width ≤ 8
+  -- members are bytes
+  pub byte : (v : ℕ) → A .member v ≡ true → v < 256
   -- a member's code fits the width, and its symbol is what the byte stands for
   pub fits : (v : ℕ) → A .member v ≡ true → A .code v < 2 ^ A .width
   pub back : (v : ℕ) → A .member v ≡ true → A .symbol (A .code v) ≡ A .canon v
@@ -44,13 +46,14 @@ one-of-back : (A : Coding) → ((v : ℕ) → A .member v ≡ true → A .symbol
 one-of-back A back v w m n e = sym (back v m) ∙ ap (A .symbol) e ∙ back w n
 
 listed-lawful : (b : ℕ) (pairs : List (List ℕ)) (other : ℕ) → 0 < b → b ≤ 8 → T (checkSymbols b pairs) → Lawful (listed b pairs other)
-unfolding listed
+unfolding listed canon
 listed-lawful b pairs other some narrow t =
     let back : (v : ℕ) → among (map symbolOf pairs) (canon v) ≡ true → found codeOf symbolOf other pairs (found symbolOf codeOf 0xff pairs (canon v)) ≡ canon v =
     λ v m. found-back symbolOf codeOf 0xff other pairs (canon v) (codes-apart b pairs t) m in
     record {
       some-bits = some;
       narrow = narrow;
+      byte = λ v m. among-byte b pairs t v m;
       fits = λ v m. found-fits b 0xff pairs t (canon v) m;
       back = back;
       one-code = one-of-back (listed b pairs other) back;
@@ -62,6 +65,7 @@ plain-lawful =
     record {
       some-bits = lit< tt;
       narrow = lit≤ tt;
+      byte = λ v m. ltb-true v 256 m;
       fits = λ v m. ltb-true v 256 m;
       back = λ v m. refl;
       one-code = λ v w m n e. e;

@@ -6,14 +6,13 @@ use lib.Bits.{bitAnd}
 use lib.Count.{trailingZeros}
 use lib.Dec.{leb, eqb}
 use lib.ListN.{getD}
-use Rattle.alphabet.specs.Questions.{ask_else_then_}
+use Rattle.alphabet.specs.Questions.{ask_else_then_, by}
 use Rattle.alphabet.specs.Symbols.{Coding, coding}
 use Rattle.alphabet.specs.declared.kind.AlphabetType.{AlphabetType}
 use Rattle.alphabet.specs.declared.kind.AlphabetType.the-variants.{Dna2bit, Dna3bit, DnaIupac, Protein, Ascii, Unknown}
 use Rattle.alphabet.specs.declared.guesser.AlphabetGuesser.{AlphabetGuesser}
 use Rattle.alphabet.specs.declared.guesser.GuesserUpdated.{GuesserUpdated}
 use Rattle.alphabet.specs.declared.guesser.Guessed.{Guessed}
-use Rattle.alphabet.specs.declared.refusal.Refusal.{Refusal}
 
 -- ---- masks
 
@@ -72,9 +71,9 @@ soundGuesser g = leb 16 (g .acc) && leb (g .acc) 31
 -- `update`: the state after a text
 unfoldable pub guesserUpdateAt : AlphabetGuesser → List ℕ → GuesserUpdated
 guesserUpdateAt g text =
-    ask soundGuesser g else GuesserUpdated.Refused Refusal.Unsound g then
+    ask soundGuesser g else GuesserUpdated.Refused (by 1 []) g then
     GuesserUpdated.Next (record { acc = masked (g .acc) text })
 
 -- `guess`: the alphabet of the state's mask
 unfoldable pub guessAt : AlphabetGuesser → Guessed
-guessAt g = ask soundGuesser g else Guessed.Refused Refusal.Unsound g then Guessed.Kind (lowest (g .acc))
+guessAt g = ask soundGuesser g else Guessed.Refused (by 1 []) g then Guessed.Kind (lowest (g .acc))

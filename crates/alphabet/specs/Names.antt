@@ -4,13 +4,12 @@ use mathlib.Core.Bool.{Bool}
 use mathlib.Core.List.{List, [], _∷_, _++_}
 use lib.Dec.{leb}
 use lib.ListN.{getD, length, replicate}
-use Rattle.alphabet.specs.Questions.{ask_else_then_}
-use Rattle.alphabet.specs.Symbols.{bytesOf}
+use Rattle.alphabet.specs.Questions.{ask_else_then_, by}
+use Rattle.alphabet.specs.Symbols.{bytesOf, Coding, coding}
 use Rattle.alphabet.specs.declared.kind.AlphabetType.{AlphabetType}
 use Rattle.alphabet.specs.declared.kind.AlphabetType.the-variants.{Dna2bit, Dna3bit, DnaIupac, Protein, Ascii, Unknown}
 use Rattle.alphabet.specs.declared.kind.Name.{Name}
 use Rattle.alphabet.specs.declared.kind.Named.{Named}
-use Rattle.alphabet.specs.declared.refusal.Refusal.{Refusal}
 
 -- an alphabet's display name
 unfoldable pub displayName : AlphabetType → List ℕ
@@ -46,6 +45,10 @@ known number = leb number 5
 unfoldable pub kindOf : ℕ → AlphabetType
 kindOf number = getD kinds number Unknown
 
+-- the coding of a known number
+abbrev pub numbered : ℕ → Coding
+numbered number = coding (kindOf number)
+
 -- `kind_of_number`
 unfoldable pub namedAt : ℕ → Named
-namedAt number = ask known number else Named.Refused Refusal.NoAlphabet then Named.Kind (kindOf number)
+namedAt number = ask known number else Named.Refused (by 8 []) then Named.Kind (kindOf number)

@@ -1,2 +1,4 @@
 pub mod Tabulated
 pub mod Computed
+pub mod Words
+pub mod Packed

@@ -1,16 +1,16 @@
 -- Laws of `tabulate`: its length, its entries, and a store into it.
 use mathlib.Core.Path.{_≡_, refl, sym, ap, ap₂, _∙_}
 use mathlib.Core.Bool.{Bool, true, false, cond}
-use mathlib.Core.List.{List, [], _∷_, _++_}
+use mathlib.Core.List.{List, [], _∷_, _++_, append-nil, append-assoc}
 use Prim.Native.Nat.{ℕ, zero, suc, _+_, _<_}
-use native.Mathlib.Nat.{not-suc-le-zero, le-of-suc-le-suc}
+use native.Mathlib.Nat.{add-zero, add-suc, not-suc-le-zero, le-of-suc-le-suc}
 use native.Mathlib.Decide.{decLt}
 use native.Mathlib.Omega.{arith}
 use borrow.Author.Count.{below-more}
 use borrow.Author.Tests.{eqb-true, eqb-false}
 use lib.Dec.{eqb}
-use lib.ListN.{length, getD, set, replicate, length-append, length-set, length-replicate, getD-replicate, List·getD-append}
-use lib.Seq.{ext-getD, getD-at, getD-set-same, getD-set-other}
+use lib.ListN.{length, getD, set, drop, replicate, length-append, length-set, length-replicate, getD-replicate, List·getD-append}
+use lib.Seq.{ext-getD, drop-cons, set-at, getD-at, getD-set-same, getD-set-other}
 use Rattle.bits.specs.Tables.{tabulate}
 
 module _ {A : Type 0} where
@@ -71,3 +71,17 @@ module _ {A : Type 0} where
   getD-within [] i d e h = absurd (not-suc-le-zero h)
   getD-within (x ∷ l) zero d e h = refl
   getD-within (x ∷ l) (suc i) d e h = getD-within l i d e (le-of-suc-le-suc h)
+
+-- a turn that stores entry n behind the first n
+pub store : (n : ℕ) (f : ℕ → ℕ) (out : List ℕ) (v : ℕ) → n < length out → v ≡ f n → set (tabulate n f ++ drop n out) n v ≡ tabulate (suc n) f ++ drop (suc n) out
+unfolding tabulate
+store n f out v h e =
+    rw (drop-cons out n 0 h, set-at (tabulate n f) (getD out n 0) (drop (suc n) out) v n (length-tabulate n f), e)
+    (sym (append-assoc (tabulate n f) (f n ∷ []) (drop (suc n) out)))
+
+pub tabulate-add : (m n : ℕ) (f : ℕ → ℕ) → tabulate (m + n) f ≡ tabulate m f ++ tabulate n (λ i. f (m + i))
+unfolding tabulate
+tabulate-add m zero f = rw (add-zero m) (sym (append-nil (tabulate m f)))
+tabulate-add m (suc n) f =
+    rw (add-suc m n, tabulate-add m n f)
+    (append-assoc (tabulate m f) (tabulate n (λ i. f (m + i))) (f (m + n) ∷ []))

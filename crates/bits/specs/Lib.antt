@@ -1,1 +1,4 @@
 pub mod Tables
+pub mod Streams
+pub mod Packing
+pub mod Memory
