@@ -1,5 +1,5 @@
 -- The laws of the calls: what an answer tells by number, and the guesser's calls one after another.
-use mathlib.Core.Path.{_≡_, refl, sym, ap, _∙_}
+use mathlib.Core.Path.{_≡_, refl, sym, ap, _∙_, subst}
 use mathlib.Core.Bool.{Bool, true, false, _&&_, true≢false}
 use mathlib.Core.List.{List, [], _∷_, _++_}
 use Prim.Native.Nat.{ℕ, zero, suc, _≤_, _<_}
@@ -17,6 +17,7 @@ use Rattle.alphabet.specs.Guess.{order, masked, lowest, guessOf, freshGu
 use Rattle.alphabet.specs.Answers.{namedReply, namedTold, guesserUpdatedReply, guesserUpdateTold, guessedReply, guessTold}
 use Rattle.alphabet.specs.declared.kind.AlphabetType.{AlphabetType}
 use Rattle.alphabet.specs.declared.kind.AlphabetType.the-variants.{Unknown}
+use Rattle.alphabet.specs.declared.kind.Name.{Name}
 use Rattle.alphabet.specs.declared.kind.Named.{Named}
 use Rattle.alphabet.specs.declared.guesser.AlphabetGuesser.{AlphabetGuesser}
 use Rattle.alphabet.specs.declared.guesser.GuesserUpdated.{GuesserUpdated}
@@ -81,6 +82,23 @@ order-number (suc (suc (suc zero))) h = refl
 order-number (suc (suc (suc (suc zero)))) h = refl
 order-number (suc (suc (suc (suc (suc n))))) h = absurd (omega arith)
 
+-- what an answer of `kind_of_number` says of the number
+pub named-kind : (n : ℕ) (k : AlphabetType) → namedAt n ≡ Named.Kind k → (known n ≡ true) × (kindOf n ≡ k)
+unfolding namedAt
+named-kind n k e = go (known n) e
+  where
+    go : (b : Bool) → (ask b else Named.Refused (by 8 []) then Named.Kind (kindOf n)) ≡ Named.Kind k → (b ≡ true) × (kindOf n ≡ k)
+    go true q = (refl, cc)
+    go false q = absurd (let z : _≡_ {A = ℕ} 0 1 = cc in omega arith)
+
+pub named-refused : (n : ℕ) (q : Refusal) → namedAt n ≡ Named.Refused q → (known n ≡ false) × (q ≡ by 8 [])
+unfolding namedAt
+named-refused n q e = go (known n) e
+  where
+    go : (b : Bool) → (ask b else Named.Refused (by 8 []) then Named.Kind (kindOf n)) ≡ Named.Refused q → (b ≡ false) × (q ≡ by 8 [])
+    go true e = absurd (let z : _≡_ {A = ℕ} 0 1 = cc in omega arith)
+    go false e = (refl, cc)
+
 -- ---- names
 
 -- seven bytes, of which the first `len` are the display name
@@ -97,6 +115,10 @@ spelt AlphabetType.DnaIupac = record { bytes = refl; within = lit≤ tt; front =
 spelt AlphabetType.Protein = record { bytes = refl; within = lit≤ tt; front = refl }
 spelt AlphabetType.Ascii = record { bytes = refl; within = lit≤ tt; front = refl }
 spelt AlphabetType.Unknown = record { bytes = refl; within = lit≤ tt; front = refl }
+
+-- so the length of a name that was answered lies within its bytes
+pub name-within : (n : Name) (k : AlphabetType) → n ≡ nameOf k → n .len ≤ length (n .bytes)
+name-within n k e = subst (λ (m : Name). m .len ≤ length (m .bytes)) (sym e) (omega (arith, spelt k .within, spelt k .bytes))
 
 -- ---- what answers tell
 

@@ -1,20 +1,9 @@
-use mathlib.Core.Path.{_≡_, sym, subst}
-use Prim.Native.Nat.{_≤_}
-use native.Mathlib.Omega.{arith}
+use mathlib.Core.Path.{sym}
 use borrow.Author.Needs.{needs}
-use lib.ListN.{length}
 use lib.Seq.{length-take-le}
-use Rattle.alphabet.specs.declared.kind.AlphabetType.{AlphabetType}
-use Rattle.alphabet.specs.declared.kind.Name.{Name}
-use Rattle.alphabet.specs.Names.{nameOf}
-use Rattle.alphabet.proofs.Calls.{spelt}
+use Rattle.alphabet.proofs.Calls.{name-within}
 use Rattle.guessseq.proofs.main.Statement.{statement}
 use Rattle.guessseq.proofs.main.Tie as tie
-
-name-within : (n : Name) (k : AlphabetType) → n ≡ nameOf k → n .len ≤ length (n .bytes)
-name-within n k e =
-    let s = spelt k in
-    subst (λ (m : Name). m .len ≤ length (m .bytes)) (sym e) (omega (arith, s .within, s .bytes))
 
 slice-aggregate-read-input : tie.Need-slice-aggregate-read-input
 slice-aggregate-read-input c = search needs

@@ -1,0 +1,49 @@
+use borrow.Author.Needs.{needs}
+use Rattle.fantailclock.proofs.Told.{update-big, update-next, update-refused}
+use Rattle.fantailclock.proofs.guesses.fc_guesser_update.Statement.{statement}
+use Rattle.fantailclock.proofs.guesses.fc_guesser_update.Tie as tie
+
+returns : tie.Need-returns
+returns c = update-big (c .before .before .before .args .state) (c .before .before .before .args .text .now) (c .if1 .taken)
+
+cast-t7 : tie.Need-cast-t7
+cast-t7 c = search needs
+
+update-requires : tie.Need-update-requires
+update-requires c κs = search needs
+
+enum-known-next : tie.Need-enum-known-next
+enum-known-next c = search needs
+
+cast-t10 : tie.Need-cast-t10
+cast-t10 c = search needs
+
+enum-known-refusal : tie.Need-enum-known-refusal
+enum-known-refusal c = search needs
+
+number-requires : tie.Need-number-requires
+number-requires c κs = search needs
+
+cast-t13 : tie.Need-cast-t13
+cast-t13 c = search needs
+
+returns-2 : tie.Need-returns-2
+returns-2 c = update-next (c .before .before .before .before .before .before .before .before .before .args .state) _ (c .before .before .before .before .update .result) _ (c .before .before .next .given .1) (c .before .before .before .before .update .ensures .1)
+
+returns-3 : tie.Need-returns-3
+returns-3 c = update-refused (c .before .before .before .before .before .before .before .before .before .args .state) _ (c .before .before .before .before .update .result) _ _ (c .number .result) (c .before .before .refusal .given .1) (c .before .before .before .before .update .ensures .1) (c .number .ensures)
+
+pub fc-guesser-update-spec : {M : Type 1} → statement M
+fc-guesser-update-spec =
+    tie.close
+    (tie.spec
+    returns
+    cast-t7
+    update-requires
+    enum-known-next
+    cast-t10
+    enum-known-refusal
+    number-requires
+    cast-t13
+    returns-2
+    returns-3)

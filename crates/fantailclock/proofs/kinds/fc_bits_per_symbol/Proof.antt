@@ -1,0 +1,44 @@
+use mathlib.Core.Path.{sym, _∙_}
+use borrow.Author.Needs.{needs}
+use Rattle.fantailclock.proofs.Told.{bits-known, bits-refused}
+use Rattle.fantailclock.proofs.kinds.fc_bits_per_symbol.Statement.{statement}
+use Rattle.fantailclock.proofs.kinds.fc_bits_per_symbol.Tie as tie
+
+kind-of-number-requires : tie.Need-kind-of-number-requires
+kind-of-number-requires c κs = search needs
+
+enum-known-kind : tie.Need-enum-known-kind
+enum-known-kind c = search needs
+
+bits-per-symbol-requires : tie.Need-bits-per-symbol-requires
+bits-per-symbol-requires c κs = search needs
+
+enum-known-refusal : tie.Need-enum-known-refusal
+enum-known-refusal c = search needs
+
+number-requires : tie.Need-number-requires
+number-requires c κs = search needs
+
+cast-t9 : tie.Need-cast-t9
+cast-t9 c = search needs
+
+returns : tie.Need-returns
+returns c =
+    let k = c .before .before in
+    bits-known (c .before .before .before .before .before .args .alphabet) _ (c .bits-per-symbol .result) (sym (c .before .before .before .before .kind-of-number .ensures .0) ∙ k .kind .given .1) (c .bits-per-symbol .ensures)
+
+returns-2 : tie.Need-returns-2
+returns-2 c = bits-refused (c .before .before .before .before .before .args .alphabet) _ (c .number .result) (sym (c .before .before .before .before .kind-of-number .ensures .0) ∙ c .before .before .refusal .given .1) (c .number .ensures)
+
+pub fc-bits-per-symbol-spec : {M : Type 1} → statement M
+fc-bits-per-symbol-spec =
+    tie.close
+    (tie.spec
+    kind-of-number-requires
+    enum-known-kind
+    bits-per-symbol-requires
+    enum-known-refusal
+    number-requires
+    cast-t9
+    returns
+    returns-2)

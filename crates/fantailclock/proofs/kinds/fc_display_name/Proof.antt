@@ -1,0 +1,71 @@
+use mathlib.Core.Path.{_≡_, sym, _∙_}
+use borrow.Author.Needs.{needs}
+use Rattle.alphabet.specs.Names.{namedAt}
+use Rattle.alphabet.specs.declared.kind.Named.the-variants.{Kind}
+use Rattle.alphabet.proofs.Calls.{name-within}
+use Rattle.fantailclock.proofs.Told.{name-short, name-fits, name-refused}
+use Rattle.fantailclock.proofs.kinds.fc_display_name.Statement.{statement}
+use Rattle.fantailclock.proofs.kinds.fc_display_name.Tie as tie
+
+-- the kind that was found
+named : (c : tie.After-kind) → namedAt (c .before .before .before .before .args .alphabet) ≡ Kind (c .kind .given .0 .0)
+named c = sym (c .before .before .kind-of-number .ensures .0) ∙ c .kind .given .1
+
+kind-of-number-requires : tie.Need-kind-of-number-requires
+kind-of-number-requires c κs = search needs
+
+enum-known-kind : tie.Need-enum-known-kind
+enum-known-kind c = search needs
+
+display-name-requires : tie.Need-display-name-requires
+display-name-requires c κs = search needs
+
+returns : tie.Need-returns
+returns c =
+    let d = c .before .before in
+    name-short (c .before .before .before .before .before .before .before .before .args .alphabet) _ (d .display-name .result) (c .before .before .before .before .before .before .before .before .args .out .now) (named (d .before .before)) (d .display-name .ensures) (c .if1 .taken)
+
+slice-aggregate-put : tie.Need-slice-aggregate-put
+slice-aggregate-put c = search needs
+
+put-requires : tie.Need-put-requires
+put-requires c κs =
+    let d = c .before .before .before .before .display-name in
+    (name-within (d .result) _ (d .ensures), c .before .before .if1 .left)
+
+enum-known-refusal : tie.Need-enum-known-refusal
+enum-known-refusal c = search needs
+
+number-requires : tie.Need-number-requires
+number-requires c κs = search needs
+
+cast-t19 : tie.Need-cast-t19
+cast-t19 c = search needs
+
+same-length : tie.Need-same-length
+same-length c = search needs
+
+returns-2 : tie.Need-returns-2
+returns-2 c =
+    let d = c .before .before .before .before .before .before .before in
+    name-fits (c .before .before .before .before .before .before .before .before .before .before .before .before .before .args .alphabet) _ (d .display-name .result) (c .before .before .before .before .before .before .before .before .before .before .before .before .before .args .out .now) (c .before .before .put .last .1 .1 .0) (named (d .before .before)) (d .display-name .ensures) (c .before .before .before .before .before .if1 .left) (c .before .before .put .ensures)
+
+returns-3 : tie.Need-returns-3
+returns-3 c = name-refused (c .before .before .before .before .before .before .args .alphabet) (c .before .before .before .before .before .before .args .out .now) _ (c .number .result) (sym (c .before .before .before .before .kind-of-number .ensures .0) ∙ c .before .before .refusal .given .1) (c .number .ensures)
+
+pub fc-display-name-spec : {M : Type 1} → statement M
+fc-display-name-spec =
+    tie.close
+    (tie.spec
+    kind-of-number-requires
+    enum-known-kind
+    display-name-requires
+    returns
+    slice-aggregate-put
+    put-requires
+    enum-known-refusal
+    number-requires
+    cast-t19
+    same-length
+    returns-2
+    returns-3)

@@ -1,0 +1,63 @@
+/*
+ * Fantailclock: packed alphabets and their coders, for programs in C and C++.
+ *
+ * Every number is 64 bits wide. Structs go in and come back by value. Nothing is kept between calls, nothing is allocated, nothing is global: any
+ * thread may call anything.
+ *
+ * `refusal` is 0 for an accepted call, else a number:
+ *   1 unsound state   2 position above 2^60   3 bytes of the range not lent   4 output memory too short   5 a byte that is no member
+ *   6 skip above 7    7 bases outstanding     8 no such alphabet              9 more than 8 bits
+ * On a refusal no byte of output memory changes, `next` is the state that was handed in, and every further number is 0.
+ *
+ * Alphabets by number: 0 Dna2bit, 1 Dna3bit, 2 DnaIupac, 3 Protein, 4 Ascii, 5 Unknown.
+ *
+ * A pointer with a length names that many bytes, which the caller owns; input and output memory of one call must not overlap. Where a length is 0 the
+ * pointer is not read, and may be null.
+ */
+#ifndef FANTAILCLOCK_H
+#define FANTAILCLOCK_H
+
+#include <stddef.h>
+#include <stdint.h>
+
+#ifdef __cplusplus
+extern "C" {
+#endif
+
+typedef struct { uint64_t refusal, value; } fc_number;
+typedef struct { uint64_t refusal, count; } fc_count;
+
+/* A guesser's state: the mask of the alphabets that hold every byte seen; 16 to 31. */
+typedef struct { uint64_t mask; } fc_guesser;
+typedef struct { uint64_t refusal; fc_guesser next; } fc_guessing;
+
+/* The version of this header's structs: 1. */
+uint64_t fc_abi_version(void);
+
+/* The bits per symbol. Refuses by 8. */
+fc_number fc_bits_per_symbol(uint64_t alphabet);
+
+/* 1 where the byte is a symbol of the alphabet, else 0; a number above 255 is none. Refuses by 8. */
+fc_number fc_contains(uint64_t alphabet, uint64_t byte);
+
+/* The display name (dna2bit, dna3bit, dnaio, protein, ASCII, Unknown) at the front of `out`, with no zero behind it, and its length, at most 7.
+ * Refuses by 8, then by 4. */
+fc_count fc_display_name(uint64_t alphabet, uint8_t *out, size_t room);
+
+/* A guesser that has seen nothing. */
+fc_guesser fc_guesser_new(void);
+
+/* The state after a text, or after one more piece of it. Refuses by 1. */
+fc_guessing fc_guesser_update(fc_guesser state, const uint8_t *text, size_t len);
+
+/* The number of the first alphabet, in the order of numbers 0 to 4, that holds every byte seen. Refuses by 1. */
+fc_number fc_guesser_guess(fc_guesser state);
+
+/* The same for a whole text. Refuses nothing. */
+fc_number fc_guess_alphabet(const uint8_t *text, size_t len);
+
+#ifdef __cplusplus
+}
+#endif
+
+#endif
