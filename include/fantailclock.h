@@ -11,8 +11,8 @@
  *
  * Alphabets by number: 0 Dna2bit, 1 Dna3bit, 2 DnaIupac, 3 Protein, 4 Ascii, 5 Unknown.
  *
- * A pointer with a length names that many bytes, which the caller owns; input and output memory of one call must not overlap. Where a length is 0 the
- * pointer is not read, and may be null.
+ * A pointer with a length names that many bytes, which the caller owns; input and output memory of one call must not overlap. Where a length is 0
+ * nothing is read or written through the pointer; it must be a valid address all the same, not null.
  */
 #ifndef FANTAILCLOCK_H
 #define FANTAILCLOCK_H

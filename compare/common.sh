@@ -1,0 +1,66 @@
+# Shared by compare/oracle, compare/run and compare/bench, which set `here` to the folder of this file and source it.
+
+root=$(dirname "$here")
+build=$root/target/compare
+archive=${FANTAILCLOCK_ARCHIVE:-$root/target/staticlib/libfantailclock.a}
+
+not_run() {
+    echo "comparison NOT RUN: $*"
+    exit 0
+}
+
+# Compiles one crate with rustc alone: the edition is fixed and every warning is an error, but for the published files.
+compile() {
+    rustc --edition 2021 -D warnings "$@"
+}
+
+# The symbols of one layer.
+symbols_of() {
+    case $1 in
+    alphabet) echo abi_version bits_per_symbol contains display_name guesser_new guesser_update guesser_guess guess_alphabet ;;
+    packing) echo encoder_new encoder_update encoder_finalize encode_sequence byte_range_for_bases ;;
+    windows) echo decode_substring_from_bytes_at_offset decode_substring_from_bytes decode_string_from_bytes decode_covered \
+        decode_rolling decode_2bit decode_3bit ;;
+    streaming) echo stream_new stream_read stream_end ;;
+    esac
+}
+
+# Sets `layers` to rustc's --cfg arguments for the layers whose symbols are all in the archive; names the others.
+find_layers() {
+    layers=
+    if ! symbols=$(nm -g --defined-only "$archive"); then
+        echo "comparison: nm cannot read $archive" >&2
+        exit 1
+    fi
+    present=$(echo "$symbols" | awk '$2 == "T" { print $3 }')
+    for layer in alphabet packing windows streaming; do
+        missing=
+        for symbol in $(symbols_of $layer); do
+            echo "$present" | grep -qx "fc_$symbol" || missing="$missing fc_$symbol"
+        done
+        if [ -z "$missing" ]; then
+            layers="$layers --cfg have_$layer"
+        else
+            echo "layer $layer: not compared, the archive lacks$missing"
+        fi
+    done
+    if [ -z "$layers" ]; then
+        echo "comparison: no layer is whole in $archive" >&2
+        exit 1
+    fi
+}
+
+# Without an archive there is nothing to compare, and that is a failure of the build before this one.
+need_archive() {
+    [ -f "$archive" ] && return
+    echo "comparison: no archive $archive; build it first: rt staticlib fantailclock" >&2
+    exit 1
+}
+
+# Compiles the program of src/$1.rs against the archive and the oracle of the folder $2.
+program() {
+    # shellcheck disable=SC2086 # $layers is a list of words
+    compile -C opt-level=3 $layers --extern oracle="$build/$2/liboracle.rlib" -L dependency="$build" \
+        -L native="$(dirname "$archive")" -l static=fantailclock \
+        -o "$build/$1" "$here/src/$1.rs"
+}

@@ -1,0 +1,42 @@
+//! Rows of the alphabet layer. A guess reads four times the long rows' bases.
+
+use crate::abi;
+use crate::measure::{text, Bench, Row};
+use oracle::digest::alphabet::{guess_alphabet, AlphabetGuesser};
+use std::hint::black_box;
+
+pub fn rows(bench: &mut Bench) {
+    let dna = text(b"ACGT", 4 * bench.long);
+    guess(bench, "guess ACGT", &dna);
+    for piece in [64, 4096, 65536] {
+        update(bench, &format!("guesser_update {piece} ACGT"), &dna[..bench.long], piece);
+    }
+    guess(bench, "guess Protein", &text(b"ACDEFGHIKLMNPQRSTVWY", 4 * bench.long));
+}
+
+fn guess(bench: &mut Bench, name: &str, text: &[u8]) {
+    let row = Row { name, calls: 1, bases: text.len(), copied: text.len(), allocated: 0 };
+    // SAFETY: the pointer is lent with its length.
+    let port = || unsafe { abi::fc_guess_alphabet(black_box(text).as_ptr(), text.len()) }.value;
+    let rust = || guess_alphabet(black_box(text)) as u64;
+    assert_eq!(port(), rust(), "{name}: the port guesses another alphabet");
+    bench.row(&row, &mut || _ = black_box(port()), &mut || _ = black_box(rust()));
+}
+
+fn update(bench: &mut Bench, name: &str, text: &[u8], piece: usize) {
+    let row = Row { name, calls: 1, bases: text.len(), copied: text.len(), allocated: 0 };
+    let mut port = || {
+        // SAFETY: each piece is lent with its length.
+        let mut state = unsafe { abi::fc_guesser_new() };
+        for piece in black_box(text).chunks(piece) {
+            state = unsafe { abi::fc_guesser_update(state, piece.as_ptr(), piece.len()) }.next;
+        }
+        black_box(state.mask);
+    };
+    let mut rust = || {
+        let mut guesser = AlphabetGuesser::new();
+        black_box(text).chunks(piece).for_each(|piece| guesser.update(piece));
+        black_box(guesser.guess());
+    };
+    bench.row(&row, &mut port, &mut rust);
+}

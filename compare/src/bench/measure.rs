@@ -1,0 +1,162 @@
+//! Rounds, clocks and the table.
+
+use std::fmt::Write;
+use std::hint::black_box;
+use std::time::Instant;
+
+const LEGEND: &str = "\
+Mb/s: millions of bases a second; ns: nanoseconds a call. Ratios are of best times: below 1 the port is faster.
+memcpy copies as many bytes as the call writes (a guess: reads). The Rust returns a new Vec, the port writes into
+memory lent to it: alloc is the share of the Rust's best time that allocating and touching such a Vec takes by itself,
+and P/(R-a) the ratio without it.
+";
+
+/// One row: how often a round calls, and what a call handles and writes.
+pub struct Row<'a> {
+    pub name: &'a str,
+    pub calls: usize,
+    /// Bases a call handles.
+    pub bases: usize,
+    /// Bytes a plain copy moves in place of a call: what the call writes, or reads where it writes nothing.
+    pub copied: usize,
+    /// Bytes of the `Vec` that the Rust returns from a call; 0 if it returns none.
+    pub allocated: usize,
+}
+
+pub struct Bench {
+    pub rounds: usize,
+    /// Bases of the long rows.
+    pub long: usize,
+    pub file: Option<String>,
+    /// Rows are measured only if their name holds one of these; all, if there are none.
+    pub words: Vec<String>,
+    table: String,
+    buffers: [Vec<u8>; 2],
+}
+
+/// Best and median of the rounds, in nanoseconds a call.
+#[derive(Clone, Copy)]
+struct Figure {
+    best: f64,
+    median: f64,
+}
+
+impl Bench {
+    pub fn new() -> Bench {
+        Bench {
+            rounds: 7,
+            long: 16 << 20,
+            file: None,
+            words: Vec::new(),
+            table: String::new(),
+            buffers: [Vec::new(), Vec::new()],
+        }
+    }
+
+    pub fn header(&mut self) {
+        println!("Rounds: {}. Long rows: {} bases.", self.rounds, self.long);
+        print!("{LEGEND}");
+        let names = ["port", "median", "Rust", "median", "memcpy"].map(|name| format!("{name:>10}")).concat();
+        println!("{:36}{:>5}{names}{:>7}{:>9}{:>9}{:>9}", "row", "", "alloc", "P/R", "P/copy", "P/(R-a)");
+        let times = ["port_best", "port_median", "rust_best", "rust_median", "memcpy_best", "alloc_best"];
+        self.table = format!("row\tbases_per_call\t{}\n", times.map(|name| format!("{name}_ns")).join("\t"));
+    }
+
+    pub fn wants(&self, name: &str) -> bool {
+        self.words.is_empty() || self.words.iter().any(|word| name.contains(word.as_str()))
+    }
+
+    /// Measures one row: in each round the port and the Rust, the first to run changing with the round, then the copy
+    /// and the allocation. Each closure makes the whole round's calls.
+    pub fn row(&mut self, row: &Row, port: &mut dyn FnMut(), rust: &mut dyn FnMut()) {
+        if !self.wants(row.name) {
+            return;
+        }
+        for buffer in &mut self.buffers {
+            buffer.resize(buffer.len().max(row.copied), 0x5A);
+        }
+        let mut times: [Vec<f64>; 4] = Default::default();
+        port();
+        rust();
+        for round in 0..self.rounds {
+            for turn in 0..2 {
+                match (round + turn) % 2 {
+                    0 => times[0].push(clock(port)),
+                    _ => times[1].push(clock(rust)),
+                }
+            }
+            let [from, to] = &mut self.buffers;
+            times[2].push(clock(&mut || copy(&from[..row.copied], &mut to[..row.copied], row.calls)));
+            times[3].push(clock(&mut || allocate(row.allocated, row.calls)));
+        }
+        let figures = times.map(|times| figure(times, row.calls));
+        self.print(row, &figures);
+    }
+
+    fn print(&mut self, row: &Row, figures: &[Figure; 4]) {
+        let [port, rust, copy, alloc] = *figures;
+        let unit = if row.calls == 1 { "Mb/s" } else { "ns" };
+        let show = |time: f64| match row.calls {
+            1 => format!("{:>10.0}", row.bases as f64 * 1e3 / time),
+            _ => format!("{time:>10.1}"),
+        };
+        let times = [port.best, port.median, rust.best, rust.median, copy.best].map(show).concat();
+        let alloc_time = if row.allocated == 0 { 0.0 } else { alloc.best };
+        let share =
+            if row.allocated == 0 { "-".to_string() } else { format!("{:.1}%", 100.0 * alloc_time / rust.best) };
+        let ratios =
+            [rust.best, copy.best, rust.best - alloc_time].map(|of| format!("{:>9.2}", port.best / of)).concat();
+        println!("{:36}{unit:>5}{times}{share:>7}{ratios}", row.name);
+        let times = [port.best, port.median, rust.best, rust.median, copy.best, alloc.best];
+        let times: Vec<String> = times.iter().map(|time| format!("{time:.2}")).collect();
+        writeln!(self.table, "{}\t{}\t{}", row.name, row.bases, times.join("\t")).expect("a String takes text");
+    }
+
+    /// Writes the figures to the file asked for, if one was.
+    pub fn finish(&self) -> std::io::Result<()> {
+        match &self.file {
+            Some(file) => std::fs::write(file, &self.table),
+            None => Ok(()),
+        }
+    }
+}
+
+fn clock(work: &mut dyn FnMut()) -> f64 {
+    let start = Instant::now();
+    work();
+    start.elapsed().as_nanos() as f64
+}
+
+fn figure(mut times: Vec<f64>, calls: usize) -> Figure {
+    times.sort_by(f64::total_cmp);
+    Figure { best: times[0] / calls as f64, median: times[times.len() / 2] / calls as f64 }
+}
+
+fn copy(from: &[u8], to: &mut [u8], calls: usize) {
+    for _ in 0..calls {
+        black_box(&mut *to).copy_from_slice(black_box(from));
+    }
+}
+
+/// Allocates as the Rust does and touches each page once, as its writing does.
+fn allocate(size: usize, calls: usize) {
+    for _ in 0..calls {
+        let mut memory: Vec<u8> = Vec::with_capacity(size);
+        for page in memory.spare_capacity_mut().chunks_mut(4096) {
+            page[0].write(1);
+        }
+        black_box(&memory);
+    }
+}
+
+/// A pseudo-random text over some symbols.
+pub fn text(symbols: &[u8], len: usize) -> Vec<u8> {
+    let mut state = 0x9E37_79B9_7F4A_7C15u64;
+    let mut next = || {
+        state ^= state << 13;
+        state ^= state >> 7;
+        state ^= state << 17;
+        symbols[(state >> 33) as usize % symbols.len()]
+    };
+    (0..len).map(|_| next()).collect()
+}

@@ -1,0 +1,300 @@
+//! Document 01's questions and answers, written from its sentences and not from the Rust: slow, small, and whole. It
+//! gives every word of every answer, on a refusal too, and the memory afterwards. It is held against the Rust wherever
+//! the Rust has an answer, and decides where the Rust has none.
+
+use crate::case::{Call, Entry, Memory};
+use crate::tally;
+
+pub const LIMIT: u64 = 1 << 60;
+pub const HUNGRY: u64 = 1;
+pub const DONE: u64 = 2;
+pub const FULL: u64 = 3;
+
+/// The symbols of codes 0, 1, 2, .. of the alphabets that have a list; byte v has code v in the others.
+pub const LISTS: [&[u8]; 4] = [b"TCAG", b"ACGTNRYU", b"NACMGRSKTWYUBDHV", b"ACDEFGHIKLMNPQRSTVWY*X-.UBZOJ"];
+const WIDTHS: [u64; 6] = [2, 3, 4, 5, 8, 8];
+const NAMES: [&str; 6] = ["dna2bit", "dna3bit", "dnaio", "protein", "ASCII", "Unknown"];
+
+/// Bits per symbol of an alphabet 0 to 5.
+pub fn width(alphabet: u64) -> u64 {
+    WIDTHS[alphabet as usize]
+}
+
+/// The code of a member; a non-member has none.
+pub fn code(alphabet: u64, byte: u8) -> Option<u64> {
+    match LISTS.get(alphabet as usize) {
+        Some(list) => list.iter().position(|&symbol| symbol == byte).map(|place| place as u64),
+        None => Some(u64::from(byte)),
+    }
+}
+
+/// The symbol of a code; Protein's unassigned codes give X.
+fn symbol(alphabet: u64, code: u64) -> u8 {
+    match LISTS.get(alphabet as usize) {
+        Some(list) => list.get(code as usize).copied().unwrap_or(b'X'),
+        None => code as u8,
+    }
+}
+
+/// The mask of a text: bit i is set exactly when alphabet i holds every byte of it.
+pub fn mask(text: &[u8]) -> u64 {
+    (0..5).filter(|&i| text.iter().all(|&byte| code(i, byte).is_some())).map(|i| 1 << i).sum()
+}
+
+/// The lowest `count` bits of a number, most significant first.
+fn bits(number: u64, count: u64) -> impl Iterator<Item = u64> {
+    (0..count).rev().map(move |k| number >> k & 1)
+}
+
+/// The number that a row of bits writes, the first of them the most significant.
+fn number(row: &[u64]) -> u64 {
+    row.iter().fold(0, |sum, bit| sum * 2 + bit)
+}
+
+/// The bits of a text's codes one after another; a non-member counts as a symbol whose bits are all ones.
+fn code_bits(alphabet: u64, text: &[u8]) -> Vec<u64> {
+    let ones = u64::MAX;
+    text.iter().flat_map(|&byte| bits(code(alphabet, byte).unwrap_or(ones), width(alphabet))).collect()
+}
+
+/// A whole text packed: spare low bits of the last byte are zero.
+pub fn packed(alphabet: u64, text: &[u8]) -> Vec<u8> {
+    let mut row = code_bits(alphabet, text);
+    row.resize(row.len().div_ceil(8) * 8, 0);
+    row.chunks(8).map(|byte| number(byte) as u8).collect()
+}
+
+/// Base number `i` of a file, given as the byte at each place.
+pub fn base(alphabet: u64, i: u64, file: &dyn Fn(u64) -> u8) -> u8 {
+    let first = i * width(alphabet);
+    let row: Vec<u64> = (first..first + width(alphabet)).map(|k| u64::from(file(k / 8)) >> (7 - k % 8) & 1).collect();
+    symbol(alphabet, number(&row))
+}
+
+pub fn first_stranger(alphabet: u64, text: &[u8]) -> Option<(u64, u8)> {
+    let place = text.iter().position(|&byte| code(alphabet, byte).is_none())?;
+    Some((place as u64, text[place]))
+}
+
+/// A refusal: its number, and the values that document 01 gives with 5 and 7.
+#[derive(Debug)]
+pub enum No {
+    Plain(u64),
+    Member(u64, u8),
+    Outstanding(u64),
+}
+
+pub type Answer = Result<Vec<u64>, No>;
+
+/// The answer to a call, by document 01; what it writes goes into the memory.
+pub fn answer(call: &Call, memory: &mut Memory) -> Vec<u64> {
+    match accepted(call, memory) {
+        Ok(words) => words,
+        Err(no) => refused(call, &no),
+    }
+}
+
+/// On a refusal the state comes back as it was handed in (a start echoes its arguments) and the rest is zero, but for
+/// the values that belong to the number.
+fn refused(call: &Call, no: &No) -> Vec<u64> {
+    let shape = call.entry.shape();
+    let mut words = vec![0; shape.answer.split_whitespace().count()];
+    match *no {
+        No::Plain(number) => words[0] = number,
+        No::Member(position, byte) => words.copy_from_slice(&[5, 0, position, u64::from(byte)]),
+        No::Outstanding(bases) => words.copy_from_slice(&[7, bases]),
+    }
+    words.extend(&call.numbers[..shape.next.split_whitespace().count()]);
+    words
+}
+
+/// A question: the refusal's number where the answer is no.
+pub fn ask(yes: bool, number: u64) -> Result<(), No> {
+    if yes {
+        Ok(())
+    } else {
+        Err(No::Plain(number))
+    }
+}
+
+fn accepted(call: &Call, memory: &mut Memory) -> Answer {
+    let n = call.numbers;
+    match call.entry {
+        Entry::AbiVersion => Ok(vec![1]),
+        Entry::BitsPerSymbol => ask(n[0] <= 5, 8).map(|()| vec![0, width(n[0])]),
+        Entry::Contains => ask(n[0] <= 5, 8).map(|()| vec![0, u64::from(contains(n[0], n[1]))]),
+        Entry::DisplayName => display_name(n[0], memory.lent(0)),
+        Entry::GuesserNew => Ok(vec![31]),
+        Entry::GuesserUpdate => guesser_sound(n[0]).map(|()| vec![0, n[0] & mask(&call.text)]),
+        Entry::GuesserGuess => guesser_sound(n[0]).map(|()| vec![0, u64::from(n[0].trailing_zeros())]),
+        Entry::GuessAlphabet | Entry::GuesserList => Ok(vec![0, u64::from(mask(&call.text).trailing_zeros())]),
+
+        Entry::EncoderNew => ask(n[0] <= 5, 8).map(|()| vec![0, n[0], 0, 0, 0, 0, 0, 0]),
+        Entry::EncoderUpdate => update(&n, &call.text, memory.lent(0)),
+        Entry::EncoderFinalize => finalize(&n, memory.lent(0)),
+        Entry::EncodeSequence => encode_sequence(n[0], &call.text, memory.lent(0)),
+        Entry::ByteRange => byte_range(n[0], n[1], n[2]),
+        Entry::EncoderList => Ok(tally::encoder(call, memory)),
+
+        Entry::StreamNew => {
+            ask(n[0] <= 5, 8)?;
+            ask(n[1] < 8, 6)?;
+            Ok(vec![0, n[0], n[1], n[2], 0, 0])
+        }
+        Entry::StreamRead => stream_read(&n, &call.text, memory.lent(0)),
+        Entry::StreamEnd => stream_end(&n),
+        Entry::StreamList => Ok(tally::stream(call, memory)),
+        _ => window(call, memory.lent(0)),
+    }
+}
+
+/// Membership; a byte above 255 is no member of any alphabet.
+fn contains(alphabet: u64, byte: u64) -> bool {
+    u8::try_from(byte).is_ok_and(|byte| code(alphabet, byte).is_some())
+}
+
+fn display_name(alphabet: u64, out: &mut [u8]) -> Answer {
+    ask(alphabet <= 5, 8)?;
+    write(out, NAMES[alphabet as usize].as_bytes()).map(|count| vec![0, count])
+}
+
+/// Question 9, then the writing: from the front, and nothing behind it.
+fn write(out: &mut [u8], bytes: &[u8]) -> Result<u64, No> {
+    ask(bytes.len() <= out.len(), 4)?;
+    out[..bytes.len()].copy_from_slice(bytes);
+    Ok(bytes.len() as u64)
+}
+
+fn guesser_sound(mask: u64) -> Result<(), No> {
+    ask((16..=31).contains(&mask), 1)
+}
+
+/// Question 4 for an encoder. With no first non-member its position and byte mean nothing.
+fn encoder_sound(state: &[u64; 7]) -> Result<(), No> {
+    let [alphabet, seen, pending_bits, pending, has_bad, bad_position, bad_byte] = *state;
+    ask(alphabet <= 5, 8)?;
+    ask(seen <= LIMIT, 1)?;
+    ask(pending_bits == seen * width(alphabet) % 8, 1)?;
+    ask(pending < 1 << pending_bits, 1)?;
+    ask(has_bad <= 1, 1)?;
+    let truly = bad_byte <= 255 && !contains(alphabet, bad_byte) && bad_position < seen;
+    ask(has_bad == 0 || truly, 1)
+}
+
+fn update(state: &[u64; 7], piece: &[u8], out: &mut [u8]) -> Answer {
+    encoder_sound(state)?;
+    let [alphabet, seen, pending_bits, pending, has_bad, bad_position, bad_byte] = *state;
+    ask(piece.len() as u64 <= LIMIT - seen, 2)?;
+    let mut row: Vec<u64> = bits(pending, pending_bits).collect();
+    row.extend(code_bits(alphabet, piece));
+    let whole = row.chunks_exact(8);
+    let left = whole.remainder();
+    let bytes: Vec<u8> = whole.clone().map(|byte| number(byte) as u8).collect();
+    let count = write(out, &bytes)?;
+    let bad = match first_stranger(alphabet, piece) {
+        _ if has_bad == 1 => [1, bad_position, bad_byte],
+        Some((place, byte)) => [1, seen + place, u64::from(byte)],
+        None => [0, 0, 0],
+    };
+    let next = [alphabet, seen + piece.len() as u64, left.len() as u64, number(left), bad[0], bad[1], bad[2]];
+    Ok([0, count].into_iter().chain(next).collect())
+}
+
+fn finalize(state: &[u64; 7], out: &mut [u8]) -> Answer {
+    encoder_sound(state)?;
+    let [_, _, pending_bits, pending, has_bad, bad_position, bad_byte] = *state;
+    if has_bad == 1 {
+        return Err(No::Member(bad_position, bad_byte as u8));
+    }
+    let last = [(pending << (8 - pending_bits)) as u8];
+    let count = write(out, if pending_bits > 0 { &last } else { &[] })?;
+    Ok(vec![0, count, 0, 0])
+}
+
+fn encode_sequence(alphabet: u64, text: &[u8], out: &mut [u8]) -> Answer {
+    ask(alphabet <= 5, 8)?;
+    ask(text.len() as u64 <= LIMIT, 2)?;
+    let bytes = packed(alphabet, text);
+    ask(bytes.len() <= out.len(), 4)?;
+    match first_stranger(alphabet, text) {
+        Some((place, byte)) => Err(No::Member(place, byte)),
+        None => Ok(vec![0, write(out, &bytes)?, 0, 0]),
+    }
+}
+
+pub fn byte_range(start: u64, end: u64, bits: u64) -> Answer {
+    ask(bits <= 8, 9)?;
+    ask(start <= LIMIT && end <= LIMIT, 2)?;
+    Ok(vec![0, start * bits / 8, (end * bits).div_ceil(8)])
+}
+
+/// All window reads: the zero-filling ones, the covered one and the engines.
+fn window(call: &Call, out: &mut [u8]) -> Answer {
+    let [alphabet, byte_offset, start, end, ..] = call.numbers;
+    let bytes = &call.text;
+    if end <= start {
+        return Ok(vec![0, 0]);
+    }
+    ask(alphabet <= 5, 8)?;
+    ask(end <= LIMIT && byte_offset <= LIMIT, 2)?;
+    if call.entry == Entry::DecodeCovered {
+        let range = byte_range(start, end, width(alphabet))?;
+        ask(byte_offset <= range[1] && range[2] <= byte_offset + bytes.len() as u64, 3)?;
+    }
+    ask(end - start <= out.len() as u64, 4)?;
+    let file = |place: u64| match place.checked_sub(byte_offset) {
+        Some(lent) => bytes.get(lent as usize).copied().unwrap_or(0),
+        None => 0,
+    };
+    let bases: Vec<u8> = (start..end).map(|i| base(alphabet, i, &file)).collect();
+    Ok(vec![0, write(out, &bases)?])
+}
+
+/// Question 4 for a stream.
+fn stream_sound(state: &[u64; 7]) -> Result<(), No> {
+    let [alphabet, skip, _, pending_bits, pending, ..] = *state;
+    ask(alphabet <= 5, 8)?;
+    ask(skip < 8 && pending_bits <= 7 && pending < 1 << pending_bits, 1)?;
+    ask(skip == 0 || pending_bits == 0, 1)
+}
+
+/// A state with p bits pending is that of a stream of skip 8 - p that has taken one byte, so one count serves both: with
+/// a skip q, k bases take ceil((q + k·b) / 8) bytes.
+fn stream_read(state: &[u64; 7], source: &[u8], out: &mut [u8]) -> Answer {
+    stream_sound(state)?;
+    let [alphabet, skip, budget, pending_bits, pending, ..] = *state;
+    if skip > 0 && source.is_empty() {
+        return Ok(vec![0, 0, 0, HUNGRY, alphabet, skip, budget, 0, 0]);
+    }
+    let before = if pending_bits > 0 { vec![pending as u8] } else { vec![] };
+    let bytes = [&before, source].concat();
+    let q = if pending_bits > 0 { 8 - pending_bits } else { skip };
+    let b = width(alphabet);
+    let k = budget.min(out.len() as u64).min((8 * bytes.len() as u64 - q) / b);
+    let row: Vec<u64> = bytes.iter().flat_map(|&byte| bits(u64::from(byte), 8)).skip(q as usize).collect();
+    let bases: Vec<u8> = row.chunks(b as usize).take(k as usize).map(|code| symbol(alphabet, number(code))).collect();
+    write(out, &bases)?;
+    let taken = (q + k * b).div_ceil(8);
+    let left = &row[(k * b) as usize..(taken * 8 - q) as usize];
+    let status = stream_status(budget - k, out.len() as u64 - k);
+    let next = [alphabet, 0, budget - k, left.len() as u64, number(left)];
+    Ok([0, taken - before.len() as u64, k, status].into_iter().chain(next).collect())
+}
+
+/// The status once no skip is due, first that holds.
+pub fn stream_status(budget: u64, room: u64) -> u64 {
+    match (budget, room) {
+        (0, _) => DONE,
+        (_, 0) => FULL,
+        _ => HUNGRY,
+    }
+}
+
+fn stream_end(state: &[u64; 7]) -> Answer {
+    stream_sound(state)?;
+    let [_, skip, budget, ..] = *state;
+    if skip > 0 || budget > 0 {
+        return Err(No::Outstanding(budget));
+    }
+    Ok(vec![0, 0])
+}

@@ -1,0 +1,273 @@
+//! Cases of packing: the encoder from reachable, sound and forged states, `encode_sequence`, byte ranges and lists.
+
+use crate::case::{Call, Entry, Step};
+use crate::check::{Checker, Go};
+use crate::model::{self, LIMIT};
+use crate::random::{beyond, Random};
+
+pub fn cases(check: &mut Checker, random: &mut Random, scale: u64) -> Go {
+    starts(check, random)?;
+    for alphabet in 0..=5 {
+        short_sequences(check, random, alphabet)?;
+        strangers_at_every_place(check, random, alphabet)?;
+        every_cut(check, random, alphabet)?;
+        for _ in 0..20 * scale {
+            bulk(check, random, alphabet)?;
+        }
+        for _ in 0..2000 * scale {
+            random_sequence(check, random, alphabet)?;
+            random_update(check, random, alphabet)?;
+            random_finalize(check, random, alphabet)?;
+            random_list(check, random, alphabet)?;
+        }
+    }
+    beyond_alphabets(check, random)?;
+    byte_ranges(check, random, scale)
+}
+
+/// A fresh encoder has no input but its number, so the count of cases is the count of fills of memory.
+fn starts(check: &mut Checker, random: &mut Random) -> Go {
+    for alphabet in (0..=5).chain(beyond(5)) {
+        check.call(&Call::new(Entry::EncoderNew, &[alphabet]))?;
+    }
+    for _ in 0..1000 {
+        check.call(&Call::new(Entry::EncoderNew, &[random.number()]))?;
+    }
+    Ok(())
+}
+
+/// How many bytes `len` symbols fill.
+fn need(alphabet: u64, len: usize) -> usize {
+    (len as u64 * model::width(alphabet)).div_ceil(8) as usize
+}
+
+/// Room around what is needed: too little by one, just enough, a little more, none.
+fn room_near(random: &mut Random, need: usize) -> usize {
+    match random.below(8) {
+        0 => 0,
+        1 | 2 => need.saturating_sub(1),
+        3 => need + 1 + random.below(9) as usize,
+        _ => need,
+    }
+}
+
+/// Lengths around every byte boundary, with every room from none to more than enough.
+fn short_sequences(check: &mut Checker, random: &mut Random, alphabet: u64) -> Go {
+    for len in 0..=33 {
+        for room in 0..=need(alphabet, len) + 2 {
+            let text = random.members(alphabet, len);
+            check.call(&Call::new(Entry::EncodeSequence, &[alphabet]).text(&text).room(room))?;
+        }
+    }
+    Ok(())
+}
+
+/// One non-member at every place, and two, with enough room and too little.
+fn strangers_at_every_place(check: &mut Checker, random: &mut Random, alphabet: u64) -> Go {
+    for len in 1..=20 {
+        for place in 0..len {
+            for second in place..len {
+                let mut text = random.members(alphabet, len);
+                text[place] = random.stranger(alphabet);
+                text[second] = random.stranger(alphabet);
+                let room = room_near(random, need(alphabet, len));
+                check.call(&Call::new(Entry::EncodeSequence, &[alphabet]).text(&text).room(room))?;
+                let state = sound_state(random, alphabet);
+                let room = room_near(random, completed(&state, len));
+                check.call(&Call::new(Entry::EncoderUpdate, &state).text(&text).room(room))?;
+            }
+        }
+    }
+    Ok(())
+}
+
+fn random_sequence(check: &mut Checker, random: &mut Random, alphabet: u64) -> Go {
+    let len = random.pick(&[8, 20, 70, 300]);
+    let len = random.below(len) as usize;
+    let rarity = random.pick(&[10, 100, 100_000]);
+    let text = random.mixed(alphabet, len, rarity);
+    let room = room_near(random, need(alphabet, len));
+    check.call(&Call::new(Entry::EncodeSequence, &[alphabet]).text(&text).room(room))
+}
+
+/// Gives a state a first non-member.
+fn bad(state: &mut [u64; 7], position: u64, byte: u64) {
+    state[4..].copy_from_slice(&[1, position, byte]);
+}
+
+/// A state that answers every part of question 4 with yes, whether or not a text leads there.
+fn sound_state(random: &mut Random, alphabet: u64) -> [u64; 7] {
+    let seen = match random.below(5) {
+        0 => random.below(9),
+        1 => LIMIT - random.below(30),
+        2 => random.below(LIMIT + 1),
+        _ => random.below(200),
+    };
+    let pending_bits = seen * model::width(alphabet) % 8;
+    let pending = random.below(1 << pending_bits);
+    let mut state = [alphabet, seen, pending_bits, pending, 0, 0, 0];
+    if alphabet < 4 && seen > 0 && random.one_in(3) {
+        let position = random.below(seen);
+        let position = random.pick(&[0, seen - 1, position]);
+        bad(&mut state, position, u64::from(random.stranger(alphabet)));
+    } else if random.one_in(4) {
+        // With no first non-member these two mean nothing, whatever they hold.
+        state[5..].copy_from_slice(&[random.number(), random.number()]);
+    }
+    state
+}
+
+/// A sound state with something changed that may leave it unsound.
+fn forged_state(random: &mut Random, alphabet: u64) -> [u64; 7] {
+    let mut state = sound_state(random, alphabet);
+    let seen = state[1];
+    match random.below(10) {
+        0 => state[1] = LIMIT + 1 + random.below(16),
+        // Seen so large that seen·b passes 64 bits, with the remainder that it leaves there.
+        1 => {
+            state[1] = random.number();
+            state[2] = state[1].wrapping_mul(model::width(alphabet)) % 8;
+            state[3] = 0;
+        }
+        2 => state[2] = random.number(),
+        3 => state[2] = (state[2] + 1 + random.below(7)) % 8,
+        4 => state[3] = (1 << state[2]) + random.below(3),
+        5 => state[3] = random.number(),
+        6 => state[4] = random.number(),
+        7 => bad(&mut state, seen.wrapping_sub(1) % LIMIT, random.next() & 0xFF),
+        8 => bad(&mut state, seen + random.below(3), u64::from(random.stranger(alphabet))),
+        _ => bad(&mut state, seen / 2, 256 * (1 + random.below(5)) + u64::from(random.stranger(alphabet))),
+    }
+    state
+}
+
+/// How many bytes an update from a sound state writes for a piece.
+fn completed(state: &[u64; 7], len: usize) -> usize {
+    ((state[2] + len as u64 * model::width(state[0])) / 8) as usize
+}
+
+fn random_update(check: &mut Checker, random: &mut Random, alphabet: u64) -> Go {
+    let forged = random.one_in(4);
+    let state = if forged { forged_state(random, alphabet) } else { sound_state(random, alphabet) };
+    let len = random.pick(&[2, 9, 40, 120]);
+    let len = random.below(len) as usize;
+    let rarity = random.pick(&[5, 50, 100_000]);
+    let piece = random.mixed(alphabet, len, rarity);
+    let enough = if forged { len + 8 } else { completed(&state, len) };
+    let room = room_near(random, enough);
+    check.call(&Call::new(Entry::EncoderUpdate, &state).text(&piece).room(room))
+}
+
+/// Long texts, for whatever the encoder does in bulk: whole, as one piece from any state, and in pieces.
+fn bulk(check: &mut Checker, random: &mut Random, alphabet: u64) -> Go {
+    let len = 500 + random.below(4000) as usize;
+    let rarity = random.pick(&[1500, 100_000_000]);
+    let text = random.mixed(alphabet, len, rarity);
+    let room = room_near(random, need(alphabet, len));
+    check.call(&Call::new(Entry::EncodeSequence, &[alphabet]).text(&text).room(room))?;
+    let state = sound_state(random, alphabet);
+    let room = room_near(random, completed(&state, len));
+    check.call(&Call::new(Entry::EncoderUpdate, &state).text(&text).room(room))?;
+    let first = random.below(len as u64) as usize;
+    let steps = exact(alphabet, &[first, len - first]);
+    check.call(&Call::new(Entry::EncoderList, &[alphabet]).text(&text).steps(steps))
+}
+
+fn random_finalize(check: &mut Checker, random: &mut Random, alphabet: u64) -> Go {
+    let state = if random.one_in(3) { forged_state(random, alphabet) } else { sound_state(random, alphabet) };
+    let room = random.pick(&[0, 0, 1, 1, 2, 7]);
+    check.call(&Call::new(Entry::EncoderFinalize, &state).room(room))
+}
+
+/// Numbers that name no alphabet, in a parameter and in states sound and unsound.
+fn beyond_alphabets(check: &mut Checker, random: &mut Random) -> Go {
+    for alphabet in beyond(5).into_iter().cycle().take(3000) {
+        let mut state = forged_state(random, alphabet % 6);
+        state[0] = alphabet;
+        let len = random.below(9) as usize;
+        let (text, room) = (random.bytes(len), random.below(9) as usize);
+        check.call(&Call::new(Entry::EncodeSequence, &[alphabet]).text(&text).room(room))?;
+        check.call(&Call::new(Entry::EncoderUpdate, &state).text(&text).room(room))?;
+        check.call(&Call::new(Entry::EncoderFinalize, &state).room(room))?;
+    }
+    Ok(())
+}
+
+fn last(room: usize) -> Step {
+    Step { length: 0, room, last: true }
+}
+
+/// Steps for pieces of the given lengths, each with the room it needs.
+fn exact(alphabet: u64, lengths: &[usize]) -> Vec<Step> {
+    let b = model::width(alphabet) as usize;
+    let mut seen = 0;
+    let mut steps = Vec::new();
+    for &length in lengths {
+        steps.push(Step { length, room: (seen + length) * b / 8 - seen * b / 8, last: false });
+        seen += length;
+    }
+    steps.push(last(usize::from(seen * b % 8 > 0)));
+    steps
+}
+
+/// Every way to cut texts of up to eight bytes into pieces, with members only and with one non-member.
+fn every_cut(check: &mut Checker, random: &mut Random, alphabet: u64) -> Go {
+    for len in 1..=8usize {
+        for cuts in 0..1usize << (len - 1) {
+            let mut lengths = vec![1];
+            for place in 0..len - 1 {
+                match cuts >> place & 1 {
+                    0 => *lengths.last_mut().expect("not empty") += 1,
+                    _ => lengths.push(1),
+                }
+            }
+            let mut text = random.members(alphabet, len);
+            check.call(&Call::new(Entry::EncoderList, &[alphabet]).text(&text).steps(exact(alphabet, &lengths)))?;
+            text[random.below(len as u64) as usize] = random.stranger(alphabet);
+            check.call(&Call::new(Entry::EncoderList, &[alphabet]).text(&text).steps(exact(alphabet, &lengths)))?;
+        }
+    }
+    Ok(())
+}
+
+/// A list with empty pieces, refused calls, a `finalize` too early and one at the end.
+fn random_list(check: &mut Checker, random: &mut Random, alphabet: u64) -> Go {
+    let calls = random.below(7) as usize;
+    let longest = random.pick(&[3, 9, 40]);
+    let lengths: Vec<usize> = (0..calls).map(|_| random.below(longest) as usize).collect();
+    let mut steps = exact(alphabet, &lengths);
+    for step in &mut steps {
+        if random.one_in(6) {
+            step.room = random.below(6) as usize;
+        }
+    }
+    if random.one_in(4) {
+        steps.insert(random.below(calls as u64 + 1) as usize, last(random.below(2) as usize));
+    }
+    let rarity = random.pick(&[20, 100_000]);
+    let text = random.mixed(alphabet, lengths.iter().sum(), rarity);
+    check.call(&Call::new(Entry::EncoderList, &[alphabet]).text(&text).steps(steps))
+}
+
+/// Every small range, ranges near 2^60, and numbers beyond.
+fn byte_ranges(check: &mut Checker, random: &mut Random, scale: u64) -> Go {
+    for bits in (0..=9).chain(beyond(8)) {
+        for start in 0..=17 {
+            for end in 0..=17 {
+                check.call(&Call::new(Entry::ByteRange, &[start, end, bits]))?;
+            }
+            for end in LIMIT - 3..=LIMIT + 3 {
+                check.call(&Call::new(Entry::ByteRange, &[start, end, bits]))?;
+                check.call(&Call::new(Entry::ByteRange, &[end, start, bits]))?;
+                check.call(&Call::new(Entry::ByteRange, &[end, LIMIT - start, bits]))?;
+            }
+        }
+    }
+    for _ in 0..6000 * scale {
+        let bits = if random.one_in(8) { random.number() } else { random.below(9) };
+        let start = if random.one_in(2) { random.below(LIMIT + 1) } else { random.number() };
+        let end = if random.one_in(2) { random.below(LIMIT + 1) } else { random.number() };
+        check.call(&Call::new(Entry::ByteRange, &[start, end, bits]))?;
+    }
+    Ok(())
+}

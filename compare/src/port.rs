@@ -1,0 +1,216 @@
+//! The port's answers, through the C ABI of its archive; with a planted fault, those of a port that is wrong there.
+
+use crate::case::{Call, Layer, Memory};
+use crate::faults::Fault;
+
+/// The answer of the port to a call. The memory is lent to the port as it is.
+pub fn answer(call: &Call, memory: &mut Memory, fault: Option<Fault>) -> Vec<u64> {
+    match call.entry.shape().layer {
+        #[cfg(have_alphabet)]
+        Layer::Alphabet => alphabet::answer(call, memory, fault),
+        #[cfg(have_packing)]
+        Layer::Packing => packing::answer(call, memory, fault),
+        #[cfg(have_windows)]
+        Layer::Windows => windows::answer(call, memory, fault),
+        #[cfg(have_streaming)]
+        Layer::Streaming => streaming::answer(call, memory, fault),
+        #[allow(unreachable_patterns)] // reached only for a layer that the archive lacks
+        layer => unreachable!("{layer:?} is not in the archive"),
+    }
+}
+
+/// One plain call between a fault's change of what goes in and its change of what comes out.
+fn faulty(call: &Call, out: &mut [u8], fault: Option<Fault>, plain: fn(&Call, &mut [u8]) -> Vec<u64>) -> Vec<u64> {
+    let Some(fault) = fault else { return plain(call, out) };
+    let before = out.to_vec();
+    let mut words = plain(&fault.call(call), out);
+    fault.answer(call, &before, &mut words, out);
+    words
+}
+
+#[cfg(have_alphabet)]
+mod alphabet {
+    use super::{faulty, Call, Fault, Memory};
+    use crate::abi::{self, words, Guesser};
+    use crate::case::Entry;
+
+    pub fn answer(call: &Call, memory: &mut Memory, fault: Option<Fault>) -> Vec<u64> {
+        match call.entry {
+            Entry::GuesserList => list(call, fault),
+            _ => faulty(call, memory.lent(0), fault, plain),
+        }
+    }
+
+    fn plain(call: &Call, out: &mut [u8]) -> Vec<u64> {
+        let [first, second, ..] = call.numbers;
+        let (text, len) = (call.text.as_ptr(), call.text.len());
+        // SAFETY: each pointer is lent with its length and the two memories are apart.
+        unsafe {
+            match call.entry {
+                Entry::AbiVersion => words(abi::fc_abi_version()),
+                Entry::BitsPerSymbol => words(abi::fc_bits_per_symbol(first)),
+                Entry::Contains => words(abi::fc_contains(first, second)),
+                Entry::DisplayName => words(abi::fc_display_name(first, out.as_mut_ptr(), out.len())),
+                Entry::GuesserNew => words(abi::fc_guesser_new()),
+                Entry::GuesserUpdate => words(abi::fc_guesser_update(Guesser { mask: first }, text, len)),
+                Entry::GuesserGuess => words(abi::fc_guesser_guess(Guesser { mask: first })),
+                Entry::GuessAlphabet => words(abi::fc_guess_alphabet(text, len)),
+                _ => unreachable!("{:?}", call.entry),
+            }
+        }
+    }
+
+    fn list(call: &Call, fault: Option<Fault>) -> Vec<u64> {
+        let mut mask = faulty(&Call::new(Entry::GuesserNew, &[]), &mut [], fault, plain)[0];
+        for piece in call.pieces() {
+            let update = Call::new(Entry::GuesserUpdate, &[mask]).text(piece);
+            mask = faulty(&update, &mut [], fault, plain)[1];
+        }
+        faulty(&Call::new(Entry::GuesserGuess, &[mask]), &mut [], fault, plain)
+    }
+}
+
+#[cfg(have_packing)]
+mod packing {
+    use super::{faulty, Call, Fault, Memory};
+    use crate::abi::{self, words, Encoder};
+    use crate::case::Entry;
+
+    pub fn answer(call: &Call, memory: &mut Memory, fault: Option<Fault>) -> Vec<u64> {
+        match call.entry {
+            Entry::EncoderList => list(call, memory, fault),
+            _ => faulty(call, memory.lent(0), fault, plain),
+        }
+    }
+
+    fn plain(call: &Call, out: &mut [u8]) -> Vec<u64> {
+        let [alphabet, seen, pending_bits, pending, has_bad, bad_position, bad_byte] = call.numbers;
+        let state = Encoder { alphabet, seen, pending_bits, pending, has_bad, bad_position, bad_byte };
+        let (text, len) = (call.text.as_ptr(), call.text.len());
+        let (out, room) = (out.as_mut_ptr(), out.len());
+        // SAFETY: each pointer is lent with its length and the two memories are apart.
+        unsafe {
+            match call.entry {
+                Entry::EncoderNew => words(abi::fc_encoder_new(alphabet)),
+                Entry::EncoderUpdate => words(abi::fc_encoder_update(state, text, len, out, room)),
+                Entry::EncoderFinalize => words(abi::fc_encoder_finalize(state, out, room)),
+                Entry::EncodeSequence => words(abi::fc_encode_sequence(alphabet, text, len, out, room)),
+                Entry::ByteRange => {
+                    let [start, end, bits, ..] = call.numbers;
+                    words(abi::fc_byte_range_for_bases(start, end, bits))
+                }
+                _ => unreachable!("{:?}", call.entry),
+            }
+        }
+    }
+
+    /// Each call gets the state last returned; an accepted `finalize` ends the list.
+    fn list(call: &Call, memory: &mut Memory, fault: Option<Fault>) -> Vec<u64> {
+        let start = Call::new(Entry::EncoderNew, &call.numbers[..1]);
+        let mut state = faulty(&start, &mut [], fault, plain)[1..].to_vec();
+        let mut pieces = call.pieces();
+        let mut words = Vec::new();
+        for (at, step) in call.steps.iter().enumerate() {
+            if step.last {
+                let last = Call::new(Entry::EncoderFinalize, &state);
+                words.extend(faulty(&last, memory.lent(at), fault, plain));
+                if words[words.len() - 4] == 0 {
+                    break;
+                }
+                continue;
+            }
+            let update = Call::new(Entry::EncoderUpdate, &state).text(pieces.next().unwrap_or(&[]));
+            let answer = faulty(&update, memory.lent(at), fault, plain);
+            words.extend([answer[0], answer[1], 0, 0]);
+            state = answer[2..].to_vec();
+        }
+        words
+    }
+}
+
+#[cfg(have_windows)]
+mod windows {
+    use super::{faulty, Call, Fault, Memory};
+    use crate::abi::{self, words, Engine, Window};
+    use crate::case::Entry;
+
+    pub fn answer(call: &Call, memory: &mut Memory, fault: Option<Fault>) -> Vec<u64> {
+        faulty(call, memory.lent(0), fault, plain)
+    }
+
+    fn plain(call: &Call, out: &mut [u8]) -> Vec<u64> {
+        let [alphabet, offset, start, end, ..] = call.numbers;
+        let (bytes, len) = (call.text.as_ptr(), call.text.len());
+        let (out, room) = (out.as_mut_ptr(), out.len());
+        let window = |read: Window| unsafe { read(alphabet, bytes, len, offset, start, end, out, room) };
+        let engine = |engine: Engine| unsafe { engine(bytes, len, offset, start, end, out, room) };
+        // SAFETY: each pointer is lent with its length and the two memories are apart.
+        words(unsafe {
+            match call.entry {
+                Entry::DecodeAtOffset => window(abi::fc_decode_substring_from_bytes_at_offset),
+                Entry::DecodeCovered => window(abi::fc_decode_covered),
+                Entry::DecodeRolling => window(abi::fc_decode_rolling),
+                Entry::DecodeSubstring => {
+                    abi::fc_decode_substring_from_bytes(alphabet, bytes, len, start, end, out, room)
+                }
+                Entry::DecodeString => abi::fc_decode_string_from_bytes(alphabet, bytes, len, end, out, room),
+                Entry::Decode2bit => engine(abi::fc_decode_2bit),
+                Entry::Decode3bit => engine(abi::fc_decode_3bit),
+                _ => unreachable!("{:?}", call.entry),
+            }
+        })
+    }
+}
+
+#[cfg(have_streaming)]
+mod streaming {
+    use super::{faulty, Call, Fault, Memory};
+    use crate::abi::{self, words, Stream};
+    use crate::case::Entry;
+
+    pub fn answer(call: &Call, memory: &mut Memory, fault: Option<Fault>) -> Vec<u64> {
+        match call.entry {
+            Entry::StreamList => list(call, memory, fault),
+            _ => faulty(call, memory.lent(0), fault, plain),
+        }
+    }
+
+    fn plain(call: &Call, out: &mut [u8]) -> Vec<u64> {
+        let [alphabet, skip, budget, pending_bits, pending, ..] = call.numbers;
+        let state = Stream { alphabet, skip, budget, pending_bits, pending };
+        let (source, len) = (call.text.as_ptr(), call.text.len());
+        // SAFETY: each pointer is lent with its length and the two memories are apart.
+        unsafe {
+            match call.entry {
+                Entry::StreamNew => words(abi::fc_stream_new(alphabet, skip, budget)),
+                Entry::StreamRead => words(abi::fc_stream_read(state, source, len, out.as_mut_ptr(), out.len())),
+                Entry::StreamEnd => words(abi::fc_stream_end(state)),
+                _ => unreachable!("{:?}", call.entry),
+            }
+        }
+    }
+
+    /// Each read gets the state last returned and the bytes from the first not yet taken; an accepted end call ends it.
+    fn list(call: &Call, memory: &mut Memory, fault: Option<Fault>) -> Vec<u64> {
+        let start = Call::new(Entry::StreamNew, &call.numbers[..3]);
+        let mut state = faulty(&start, &mut [], fault, plain)[1..].to_vec();
+        let mut taken = 0;
+        let mut words = Vec::new();
+        for (at, step) in call.steps.iter().enumerate() {
+            if step.last {
+                let answer = faulty(&Call::new(Entry::StreamEnd, &state), &mut [], fault, plain);
+                words.extend([answer[0], answer[1], 0, 0]);
+                if answer[0] == 0 {
+                    break;
+                }
+                continue;
+            }
+            let source = &call.text[taken..call.text.len().min(taken + step.length)];
+            let answer = faulty(&Call::new(Entry::StreamRead, &state).text(source), memory.lent(at), fault, plain);
+            words.extend(&answer[..4]);
+            taken = call.text.len().min(taken + answer[1] as usize);
+            state = answer[4..].to_vec();
+        }
+        words
+    }
+}

@@ -1,0 +1,396 @@
+//! The Rust's answers, put in the port's form as document 01 maps them: `Vec` to lent memory and a count, `Read` to
+//! source bytes, `&mut self` to a state. Only calls in demand 2's domain get one.
+
+use crate::case::{Call, Entry, Layer, Memory};
+use crate::model;
+use oracle::digest::alphabet::{self, lookup_alphabet, Alphabet, AlphabetGuesser, AlphabetType};
+use oracle::digest::encoder::inside::{self, State};
+use oracle::digest::encoder::{self, EncodeError, SequenceEncoder};
+use oracle::digest::streaming_decoder::StreamingDecoder;
+use std::cell::Cell;
+use std::io::Read;
+
+const KINDS: [AlphabetType; 6] = [
+    AlphabetType::Dna2bit,
+    AlphabetType::Dna3bit,
+    AlphabetType::DnaIupac,
+    AlphabetType::Protein,
+    AlphabetType::Ascii,
+    AlphabetType::Unknown,
+];
+
+/// What one function of the Rust answers. Words at the end that the Rust does not tell are left out.
+pub struct Opinion {
+    pub of: &'static str,
+    pub words: Vec<u64>,
+    pub memory: Memory,
+}
+
+/// Collects opinions about one call, each with memory of its own.
+struct Panel<'a> {
+    call: &'a Call,
+    before: &'a Memory,
+    opinions: Vec<Opinion>,
+}
+
+impl Panel<'_> {
+    fn say(&mut self, of: &'static str, answer: impl FnOnce(&Call, &mut Memory) -> Vec<u64>) {
+        let mut memory = self.before.clone();
+        let words = answer(self.call, &mut memory);
+        self.opinions.push(Opinion { of, words, memory });
+    }
+
+    /// A function that returns the bytes to write.
+    fn bytes(&mut self, of: &'static str, answer: impl FnOnce(&Call) -> Vec<u8>) {
+        self.say(of, |call, memory| {
+            let bytes = answer(call);
+            write(memory.lent(0), &bytes);
+            vec![0, bytes.len() as u64]
+        });
+    }
+}
+
+fn write(out: &mut [u8], bytes: &[u8]) {
+    out[..bytes.len()].copy_from_slice(bytes);
+}
+
+/// The opinions of the Rust on a call that document 01 answers with `expected`; none outside demand 2's domain.
+pub fn opinions(call: &Call, before: &Memory, expected: &[u64]) -> Vec<Opinion> {
+    let list = matches!(call.entry, Entry::EncoderList | Entry::StreamList);
+    let refusals = expected.iter().step_by(if list { 4 } else { expected.len() });
+    let stream = call.entry == Entry::StreamList; // its only refusal is the end call's, which the Rust has not
+    let inside = stream || refusals.clone().all(|&number| number == 0 || number == 5);
+    let answers_no_refusal = matches!(call.entry, Entry::AbiVersion | Entry::GuesserNew);
+    let mut panel = Panel { call, before, opinions: Vec::new() };
+    if call.alphabet().unwrap_or(0) > 5 || !(inside || answers_no_refusal) {
+        return panel.opinions;
+    }
+    match call.entry.shape().layer {
+        Layer::Alphabet => of_alphabet(&mut panel),
+        Layer::Packing => of_packing(&mut panel),
+        Layer::Windows => of_windows(&mut panel),
+        Layer::Streaming => of_streaming(&mut panel),
+    }
+    panel.opinions
+}
+
+fn kind(call: &Call) -> AlphabetType {
+    KINDS[call.numbers[0] as usize]
+}
+
+fn table(call: &Call) -> &'static Alphabet {
+    lookup_alphabet(&kind(call))
+}
+
+fn number_of(kind: AlphabetType) -> u64 {
+    KINDS.iter().position(|&one| one == kind).expect("six kinds") as u64
+}
+
+fn of_alphabet(panel: &mut Panel) {
+    match panel.call.entry {
+        Entry::BitsPerSymbol => {
+            panel.say("AlphabetType::bits_per_symbol", |call, _| vec![0, kind(call).bits_per_symbol() as u64]);
+            panel.say("Alphabet.bits_per_symbol", |call, _| vec![0, table(call).bits_per_symbol as u64]);
+        }
+        Entry::Contains if panel.call.numbers[1] <= 255 => {
+            panel.say("Alphabet::contains", |call, _| vec![0, u64::from(table(call).contains(call.numbers[1] as u8))]);
+        }
+        Entry::DisplayName => panel.bytes("Display", |call| kind(call).to_string().into_bytes()),
+        Entry::GuesserNew => panel.say("AlphabetGuesser::new", |_, _| vec![acc(&AlphabetGuesser::new())]),
+        Entry::GuesserUpdate => panel.say("AlphabetGuesser::update", |call, _| {
+            let mut guesser = alphabet::inside::guesser(call.numbers[0] as u8);
+            guesser.update(&call.text);
+            vec![0, acc(&guesser)]
+        }),
+        Entry::GuesserGuess => panel.say("AlphabetGuesser::guess", |call, _| {
+            vec![0, number_of(alphabet::inside::guesser(call.numbers[0] as u8).guess())]
+        }),
+        Entry::GuessAlphabet => {
+            panel.say("guess_alphabet", |call, _| vec![0, number_of(alphabet::guess_alphabet(&call.text))]);
+            panel.say("ALPHABET_MASK", |call, _| vec![0, u64::from(folded(&call.text).trailing_zeros())]);
+        }
+        Entry::GuesserList => panel.say("AlphabetGuesser", |call, _| {
+            let mut guesser = AlphabetGuesser::new();
+            call.pieces().for_each(|piece| guesser.update(piece));
+            vec![0, number_of(guesser.guess())]
+        }),
+        _ => {}
+    }
+}
+
+fn acc(guesser: &AlphabetGuesser) -> u64 {
+    u64::from(alphabet::inside::acc(guesser))
+}
+
+fn folded(text: &[u8]) -> u8 {
+    let mask = alphabet::inside::alphabet_mask();
+    text.iter().fold(31, |left, &byte| left & mask[byte as usize])
+}
+
+fn of_packing(panel: &mut Panel) {
+    match panel.call.entry {
+        Entry::EncoderNew => panel.say("SequenceEncoder::new", |call, _| {
+            let fresh = SequenceEncoder::new(kind(call), 0);
+            [vec![0], next_words(call.numbers[0], &fresh)].concat()
+        }),
+        Entry::EncoderUpdate => panel.say("SequenceEncoder::update", |call, memory| {
+            let mut encoder = forged(call);
+            encoder.update(&call.text);
+            let bytes = inside::written(&encoder);
+            write(memory.lent(0), bytes);
+            [vec![0, bytes.len() as u64], next_words(call.numbers[0], &encoder)].concat()
+        }),
+        Entry::EncoderFinalize => {
+            panel.say("SequenceEncoder::finalize", |call, memory| packed(forged(call).finalize(), memory.lent(0)))
+        }
+        Entry::EncodeSequence => {
+            panel.say("encode_sequence", |call, memory| {
+                packed(encoder::encode_sequence(&call.text, table(call)), memory.lent(0))
+            });
+            panel.say("SequenceEncoder, one piece", |call, memory| packed(encoded(call), memory.lent(0)));
+        }
+        Entry::ByteRange => panel.say("byte_range_for_bases", |call, _| {
+            let [start, end, bits, ..] = call.numbers.map(|number| number as usize);
+            let range = encoder::byte_range_for_bases(start, end, bits);
+            vec![0, range.0 as u64, range.1 as u64]
+        }),
+        Entry::EncoderList => {
+            panel.say("SequenceEncoder, call by call", encoder_list);
+            if panel.call.ends_once() {
+                joined(panel);
+            }
+        }
+        _ => {}
+    }
+}
+
+/// An encoder in the state that the call hands in, which is sound.
+fn forged(call: &Call) -> SequenceEncoder {
+    let [_, seen, pending_bits, pending, has_bad, position, byte] = call.numbers;
+    let first_bad = (has_bad == 1).then_some((position as usize, byte as u8));
+    let state = State { symbols_seen: seen as usize, buffer: pending, buffer_bits: pending_bits as usize, first_bad };
+    inside::encoder(kind(call), state)
+}
+
+fn next_words(alphabet: u64, encoder: &SequenceEncoder) -> Vec<u64> {
+    let state = inside::state(encoder);
+    let (position, byte) = state.first_bad.unwrap_or((0, 0));
+    let has_bad = u64::from(state.first_bad.is_some());
+    let bits = state.buffer_bits as u64;
+    vec![alphabet, state.symbols_seen as u64, bits, state.buffer, has_bad, position as u64, u64::from(byte)]
+}
+
+fn packed(result: Result<Vec<u8>, EncodeError>, out: &mut [u8]) -> Vec<u64> {
+    match result {
+        Ok(bytes) => {
+            write(out, &bytes);
+            vec![0, bytes.len() as u64, 0, 0]
+        }
+        Err(EncodeError::InvalidSymbol { byte, position, .. }) => vec![5, 0, position as u64, u64::from(byte)],
+    }
+}
+
+/// The text, or the pieces of a list, through one encoder.
+fn encoded(call: &Call) -> Result<Vec<u8>, EncodeError> {
+    let mut encoder = SequenceEncoder::new(kind(call), call.text.len());
+    call.pieces().for_each(|piece| encoder.update(piece));
+    encoder.finalize()
+}
+
+/// Each call of a list by itself. `finalize` consumes its encoder, so it gets one in the same state.
+fn encoder_list(call: &Call, memory: &mut Memory) -> Vec<u64> {
+    let mut encoder = SequenceEncoder::new(kind(call), 0);
+    let mut pieces = call.pieces();
+    let mut words = Vec::new();
+    for (at, step) in call.steps.iter().enumerate() {
+        if step.last {
+            let answer = packed(inside::encoder(kind(call), inside::state(&encoder)).finalize(), memory.lent(at));
+            let ended = answer[0] == 0;
+            words.extend(answer);
+            if ended {
+                break;
+            }
+            continue;
+        }
+        let before = inside::written(&encoder).len();
+        encoder.update(pieces.next().unwrap_or(&[]));
+        let bytes = &inside::written(&encoder)[before..];
+        write(memory.lent(at), bytes);
+        words.extend([0, bytes.len() as u64, 0, 0]);
+    }
+    words
+}
+
+/// After an accepted `finalize` the bytes written, joined, are those of one packing of the pieces joined.
+fn joined(panel: &mut Panel) {
+    let text = panel.call.pieces().collect::<Vec<_>>().concat();
+    if let Ok(bytes) = encoded(panel.call) {
+        panel.say("SequenceEncoder, bytes joined", |call, memory| cut(call, &bytes, memory));
+    }
+    if let Ok(bytes) = encoder::encode_sequence(text, table(panel.call)) {
+        panel.say("encode_sequence of the pieces joined", |call, memory| cut(call, &bytes, memory));
+    }
+}
+
+/// The bytes of a whole packing laid out over a list of updates and the `finalize` that ends it: an update gets the
+/// bytes that its symbols complete.
+fn cut(call: &Call, bytes: &[u8], memory: &mut Memory) -> Vec<u64> {
+    let bits = table(call).bits_per_symbol;
+    let (mut symbols, mut words) = (0, Vec::new());
+    for (at, piece) in call.pieces().enumerate() {
+        let range = symbols * bits / 8..(symbols + piece.len()) * bits / 8;
+        symbols += piece.len();
+        words.extend([0, range.len() as u64, 0, 0]);
+        write(memory.lent(at), &bytes[range]);
+    }
+    let rest = bytes[symbols * bits / 8..].to_vec();
+    words.extend(packed(Ok(rest), memory.lent(call.steps.len() - 1)));
+    words
+}
+
+fn of_windows(panel: &mut Panel) {
+    let call = panel.call;
+    let [kind, _, start, end, ..] = call.numbers;
+    match call.entry {
+        Entry::DecodeSubstring => panel.bytes("decode_substring_from_bytes", |call| {
+            encoder::decode_substring_from_bytes(&call.text, start as usize, end as usize, table(call))
+        }),
+        Entry::DecodeString => panel.bytes("decode_string_from_bytes", |call| {
+            encoder::decode_string_from_bytes(&call.text, end as usize, table(call))
+        }),
+        _ => panel.bytes("decode_substring_from_bytes_at_offset", |call| {
+            engine(encoder::decode_substring_from_bytes_at_offset, call)
+        }),
+    }
+    // The private engines are asked wherever document 01 has them in the domain, but for an empty window far out,
+    // where they overflow while they prepare a loop that does not run.
+    if start > end || (start == end && start > model::LIMIT) || call.numbers[1] > model::LIMIT {
+        return;
+    }
+    panel.bytes("decode_substring_naive_at_offset", |call| engine(inside::NAIVE, call));
+    panel.bytes("decode_rolling", |call| engine(inside::ROLLING, call));
+    match kind {
+        0 => panel.bytes("decode_2bit", |call| engine(inside::TWO, call)),
+        1 => panel.bytes("decode_3bit", |call| engine(inside::THREE, call)),
+        _ => {}
+    }
+}
+
+fn engine(engine: inside::Engine, call: &Call) -> Vec<u8> {
+    let [_, byte_offset, start, end, ..] = call.numbers.map(|number| number as usize);
+    engine(&call.text, byte_offset, start, end, table(call))
+}
+
+/// A source that gives one byte a read, up to a limit that can be moved, and counts. One byte a read keeps the Rust from
+/// reading ahead, so the bytes taken can be compared.
+struct Drip<'a> {
+    bytes: &'a [u8],
+    taken: &'a Cell<usize>,
+    limit: &'a Cell<usize>,
+}
+
+impl Read for Drip<'_> {
+    fn read(&mut self, buf: &mut [u8]) -> std::io::Result<usize> {
+        if self.taken.get() >= self.limit.get() || buf.is_empty() {
+            return Ok(0);
+        }
+        buf[0] = self.bytes[self.taken.get()];
+        self.taken.set(self.taken.get() + 1);
+        Ok(1)
+    }
+}
+
+fn of_streaming(panel: &mut Panel) {
+    match panel.call.entry {
+        Entry::StreamRead => {
+            panel.say("StreamingDecoder, one base a read", |call, memory| stream_read(call, memory, base_by_base));
+            panel.say("StreamingDecoder, one read", |call, memory| stream_read(call, memory, in_one_read));
+        }
+        Entry::StreamList => panel.say("StreamingDecoder, call by call", stream_list),
+        _ => {}
+    }
+}
+
+/// Bases written and whether the source ran out; no count where the Rust's `read` failed halfway and lost it.
+type Reading = (Option<u64>, bool);
+
+/// One base a `read`: no read fails halfway, so the count is exact. The empty read first does the skip.
+fn base_by_base(stream: &mut StreamingDecoder<Drip>, out: &mut [u8]) -> Reading {
+    if stream.read(&mut []).is_err() {
+        return (Some(0), true);
+    }
+    for written in 0..out.len() {
+        match stream.read(&mut out[written..written + 1]) {
+            Ok(1) => {}
+            Ok(_) => return (Some(written as u64), false),
+            Err(_) => return (Some(written as u64), true),
+        }
+    }
+    (Some(out.len() as u64), false)
+}
+
+fn in_one_read(stream: &mut StreamingDecoder<Drip>, out: &mut [u8]) -> Reading {
+    match stream.read(out) {
+        Ok(written) => (Some(written as u64), false),
+        Err(_) => (None, true),
+    }
+}
+
+/// One read from any sound state. A state with p bits pending is reached by a skip of 8 - p, one byte and no space.
+fn stream_read(
+    call: &Call,
+    memory: &mut Memory,
+    way: fn(&mut StreamingDecoder<Drip>, &mut [u8]) -> Reading,
+) -> Vec<u64> {
+    let [_, skip, budget, pending_bits, pending, ..] = call.numbers;
+    let first = if pending_bits > 0 { vec![pending as u8 | 0xFFu8 << pending_bits] } else { vec![] };
+    let bytes = [&first, &call.text[..]].concat();
+    let (taken, limit) = (Cell::new(0), Cell::new(first.len()));
+    let drip = Drip { bytes: &bytes, taken: &taken, limit: &limit };
+    let skip = if pending_bits > 0 { 8 - pending_bits } else { skip };
+    let mut stream = StreamingDecoder::new(drip, table(call), skip as u8, budget);
+    if pending_bits > 0 {
+        assert_eq!(stream.read(&mut []).ok(), Some(0), "the first byte is there");
+    }
+    limit.set(bytes.len());
+    let (written, out_of_source) = way(&mut stream, memory.lent(0));
+    let mut words = vec![0, (taken.get() - first.len()) as u64];
+    if let Some(written) = written {
+        words.extend([written, status(out_of_source, budget - written)]);
+    }
+    words
+}
+
+/// The Rust has no status: it fails where more source is needed, and stops where the budget or the space is used.
+fn status(out_of_source: bool, budget: u64) -> u64 {
+    match (out_of_source, budget) {
+        (true, _) => model::HUNGRY,
+        (_, 0) => model::DONE,
+        _ => model::FULL,
+    }
+}
+
+fn stream_list(call: &Call, memory: &mut Memory) -> Vec<u64> {
+    let [_, skip, mut budget, ..] = call.numbers;
+    let (taken, limit) = (Cell::new(0), Cell::new(0));
+    let drip = Drip { bytes: &call.text, taken: &taken, limit: &limit };
+    let mut stream = StreamingDecoder::new(drip, table(call), skip as u8, budget);
+    let mut words = Vec::new();
+    for (at, step) in call.steps.iter().enumerate() {
+        let before = taken.get();
+        if step.last {
+            // The Rust has no end call; what it has counted tells what one would answer.
+            let ended = budget == 0 && (skip == 0 || before > 0);
+            words.extend(if ended { [0; 4] } else { [7, budget, 0, 0] });
+            if ended {
+                break;
+            }
+            continue;
+        }
+        limit.set(call.text.len().min(before + step.length));
+        let (written, out_of_source) = base_by_base(&mut stream, memory.lent(at));
+        budget -= written.unwrap_or(0);
+        words.extend([0, (taken.get() - before) as u64, written.unwrap_or(0), status(out_of_source, budget)]);
+    }
+    words
+}

@@ -1,0 +1,171 @@
+//! Cases of the window reads and engines: every window of short files, random bytes, far positions, empty windows.
+
+use crate::case::{Call, Entry};
+use crate::check::{Checker, Go};
+use crate::model::{self, LIMIT};
+use crate::random::{beyond, Random};
+
+const READS: [Entry; 7] = [
+    Entry::DecodeAtOffset,
+    Entry::DecodeSubstring,
+    Entry::DecodeString,
+    Entry::DecodeCovered,
+    Entry::DecodeRolling,
+    Entry::Decode2bit,
+    Entry::Decode3bit,
+];
+
+pub fn cases(check: &mut Checker, random: &mut Random, scale: u64) -> Go {
+    for alphabet in 0..=5 {
+        every_window(check, random, alphabet)?;
+        for _ in 0..1500 * scale {
+            random_window(check, random, alphabet)?;
+            far_window(check, random, alphabet)?;
+        }
+        for _ in 0..100 * scale {
+            long_window(check, random, alphabet)?;
+        }
+    }
+    refused_windows(check, random, scale)?;
+    empty_windows(check, random, scale)
+}
+
+/// A window of one alphabet and the lent bytes.
+struct Window<'a> {
+    alphabet: u64,
+    bytes: &'a [u8],
+    byte_offset: u64,
+    start: u64,
+    end: u64,
+    room: usize,
+}
+
+impl Window<'_> {
+    fn put(&self, check: &mut Checker, entry: Entry) -> Go {
+        let numbers = [self.alphabet, self.byte_offset, self.start, self.end];
+        // A read from 0 needs room for the bases before this window too, where there are not too many of them.
+        let before = if entry == Entry::DecodeString && self.start < 1 << 16 { self.start as usize } else { 0 };
+        check.call(&Call::new(entry, &numbers).text(self.bytes).room(self.room + before))
+    }
+
+    /// Puts it to every read that serves its alphabet; those that fix a number take it as they fix it.
+    fn put_all(&self, check: &mut Checker) -> Go {
+        for entry in READS {
+            let serves = match entry {
+                Entry::Decode2bit => self.alphabet == 0,
+                Entry::Decode3bit => self.alphabet == 1,
+                _ => true,
+            };
+            if serves {
+                self.put(check, entry)?;
+            }
+        }
+        Ok(())
+    }
+}
+
+/// Room for `count` bases, now and then one too little or a few more.
+fn room_near(random: &mut Random, count: u64) -> usize {
+    match random.below(12) {
+        0 => count.saturating_sub(1) as usize,
+        1 => (count + 1 + random.below(9)) as usize,
+        _ => count as usize,
+    }
+}
+
+/// Every window of files of up to seven bytes with every byte_offset and every length lent: two blocks of the 3-bit
+/// engine, its edges and what lies beside them.
+fn every_window(check: &mut Checker, random: &mut Random, alphabet: u64) -> Go {
+    let bases = 56 / model::width(alphabet) + 1;
+    for byte_offset in 0..=6 {
+        for len in 0..=7 {
+            let bytes = random.bytes(len);
+            for start in 0..bases {
+                for end in start..=bases {
+                    let room = room_near(random, end - start);
+                    Window { alphabet, bytes: &bytes, byte_offset, start, end, room }.put_all(check)?;
+                }
+            }
+        }
+    }
+    Ok(())
+}
+
+/// A window somewhere in a file, of which a run is lent that holds it, misses it or cuts it.
+fn random_window(check: &mut Checker, random: &mut Random, alphabet: u64) -> Go {
+    let start = random.below(200);
+    let end = start + random.pick(&[1, 8, 30, 100]).min(1 + random.below(100));
+    let low = start * model::width(alphabet) / 8;
+    let high = (end * model::width(alphabet)).div_ceil(8);
+    let byte_offset = (low + random.below(5)).saturating_sub(if random.one_in(3) { 4 } else { 0 });
+    let len = (high + random.below(5)).saturating_sub(byte_offset + random.pick(&[0, 0, 2, 9])) as usize;
+    let room = room_near(random, end - start);
+    let bytes = random.bytes(len);
+    Window { alphabet, bytes: &bytes, byte_offset, start, end, room }.put_all(check)
+}
+
+/// A short window that ends near 2^60.
+fn far_window(check: &mut Checker, random: &mut Random, alphabet: u64) -> Go {
+    let end = LIMIT - random.below(40) + random.below(3);
+    let start = end - random.below(40);
+    let first = (u128::from(start) * u128::from(model::width(alphabet)) / 8) as u64;
+    let byte_offset = match random.below(6) {
+        0 => LIMIT + random.below(2),
+        1 => random.number(),
+        _ => (first + random.below(6)).saturating_sub(3).min(LIMIT),
+    };
+    let len = random.below(48) as usize;
+    let bytes = random.bytes(len);
+    let room = room_near(random, end - start);
+    Window { alphabet, bytes: &bytes, byte_offset, start, end, room }.put_all(check)
+}
+
+/// Long windows, for whatever the engines do in bulk.
+fn long_window(check: &mut Checker, random: &mut Random, alphabet: u64) -> Go {
+    let start = random.below(64);
+    let end = start + random.below(1500);
+    let high = (end * model::width(alphabet)).div_ceil(8);
+    let byte_offset = random.below(8);
+    let len = (high + random.below(20)).saturating_sub(byte_offset + random.pick(&[0, 0, 40])) as usize;
+    let room = room_near(random, end - start);
+    let bytes = random.bytes(len);
+    Window { alphabet, bytes: &bytes, byte_offset, start, end, room }.put_all(check)
+}
+
+/// Windows that are refused: too far, without memory for them, of no alphabet, and several of these at once.
+fn refused_windows(check: &mut Checker, random: &mut Random, scale: u64) -> Go {
+    for alphabet in 0..=5 {
+        for end in [LIMIT - 1, LIMIT, LIMIT + 1, 1 << 61, u64::MAX] {
+            for start in [0, 1, end - 1] {
+                for byte_offset in [0, 1, LIMIT, LIMIT + 1, u64::MAX] {
+                    Window { alphabet, bytes: &[0xE4; 4], byte_offset, start, end, room: 0 }.put_all(check)?;
+                }
+            }
+        }
+    }
+    let beyond = beyond(5);
+    for _ in 0..2000 * scale {
+        let alphabet = if random.one_in(2) { random.pick(&beyond) } else { random.below(6) };
+        let start = random.number();
+        let end = if random.one_in(2) { random.number() } else { start.saturating_add(random.below(20)) };
+        let byte_offset = random.number();
+        let len = random.below(12) as usize;
+        let (bytes, room) = (random.bytes(len), random.below(24) as usize);
+        Window { alphabet, bytes: &bytes, byte_offset, start, end, room }.put_all(check)?;
+    }
+    Ok(())
+}
+
+/// An end at or before the start answers empty before every other question.
+fn empty_windows(check: &mut Checker, random: &mut Random, scale: u64) -> Go {
+    for _ in 0..1000 * scale {
+        let alphabet = if random.one_in(3) { random.number() } else { random.below(6) };
+        let end = random.number();
+        let start = if random.one_in(3) { end } else { end.saturating_add(random.number()) };
+        let byte_offset = random.number();
+        let len = random.below(6) as usize;
+        let (bytes, room) = (random.bytes(len), random.below(4) as usize);
+        Window { alphabet, bytes: &bytes, byte_offset, start, end, room }.put_all(check)?;
+    }
+    Ok(())
+}

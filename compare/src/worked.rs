@@ -1,0 +1,88 @@
+//! Document 01's worked table, row by row: it holds the model to the document's own figures.
+
+use crate::case::{Call, Entry, Step};
+use crate::check::{Checker, Go};
+use crate::model::{DONE, FULL, HUNGRY, LIMIT};
+
+/// The rows of the layers present.
+pub fn rows(check: &mut Checker) -> Go {
+    let rows = [guesses(), packings(), windows(), streams()].concat();
+    for (call, words, bytes) in rows {
+        if call.entry.shape().layer.present() {
+            check.row(&call, &words, &bytes)?;
+        }
+    }
+    Ok(())
+}
+
+/// A call, the first words of its answer and the first bytes of its memory.
+type Row = (Call, Vec<u64>, Vec<u8>);
+
+fn guesses() -> Vec<Row> {
+    let texts: [&[u8]; 5] = [b"", b"ACGU", b"ACGTS", b"ACGX", b"acgt"];
+    let guess = |(place, text): (usize, &&[u8])| {
+        (Call::new(Entry::GuessAlphabet, &[]).text(text), vec![0, place as u64], vec![])
+    };
+    texts.iter().enumerate().map(guess).collect()
+}
+
+fn packings() -> Vec<Row> {
+    let packed = |alphabet: u64, text: &[u8], bytes: &[u8]| {
+        let call = Call::new(Entry::EncodeSequence, &[alphabet]).text(text).room(bytes.len() + 1);
+        (call, vec![0, bytes.len() as u64, 0, 0], bytes.to_vec())
+    };
+    let steps = vec![Step { length: 4, room: 1, last: false }, Step { length: 0, room: 1, last: true }];
+    vec![
+        packed(0, b"ACGT", &[0x9C]),
+        packed(0, b"TCAG", &[0x1B]),
+        packed(1, b"ACGTNRYU", &[0x05, 0x39, 0x77]),
+        packed(2, b"NACM", &[0x01, 0x23]),
+        packed(3, b"MK*", &[0x52, 0x28]),
+        (Call::new(Entry::EncodeSequence, &[0]).text(b"ACNT").room(1), vec![5, 0, 2, 0x4E], vec![]),
+        (Call::new(Entry::EncoderList, &[0]).text(b"ACNT").steps(steps), vec![0, 1, 0, 0, 5, 0, 2, 0x4E], vec![0x9C]),
+        (Call::new(Entry::ByteRange, &[2, 6, 3]), vec![0, 0, 3], vec![]),
+        (Call::new(Entry::ByteRange, &[5, 5, 2]), vec![0, 1, 2], vec![]),
+    ]
+}
+
+fn windows() -> Vec<Row> {
+    let read = |entry: Entry, numbers: [u64; 4], bytes: &[u8], answer: &[u8]| {
+        let call = Call::new(entry, &numbers).text(bytes).room(answer.len() + 1);
+        (call, vec![0, answer.len() as u64], answer.to_vec())
+    };
+    let refused = |entry: Entry, numbers: [u64; 4], bytes: &[u8], room: usize, number: u64| {
+        (Call::new(entry, &numbers).text(bytes).room(room), vec![number, 0], vec![])
+    };
+    let (zero, covered) = (Entry::DecodeAtOffset, Entry::DecodeCovered);
+    vec![
+        read(zero, [1, 0, 2, 6], &[0x05, 0x39, 0x77], b"GTNR"),
+        read(covered, [1, 0, 2, 6], &[0x05, 0x39, 0x77], b"GTNR"),
+        read(zero, [0, 0, 0, 6], &[0x9C], b"ACGTTT"),
+        refused(covered, [0, 0, 0, 6], &[0x9C], 6, 3),
+        read(zero, [0, 1, 2, 5], &[0x80], b"TTA"),
+        refused(covered, [0, 1, 2, 5], &[0x80], 3, 3),
+        read(zero, [3, 0, 0, 1], &[0xE8], b"X"),
+        read(covered, [3, 0, 0, 1], &[0xE8], b"X"),
+        refused(zero, [0, 0, 0, LIMIT], &[], 0, 4),
+        refused(zero, [0, 0, 0, LIMIT + 1], &[], 0, 2),
+    ]
+}
+
+fn streams() -> Vec<Row> {
+    let end = Step { length: 0, room: 0, last: true };
+    let list = |numbers: [u64; 3], source: &[u8], room: usize, words: &[u64]| {
+        let read = Step { length: source.len(), room, last: false };
+        (Call::new(Entry::StreamList, &numbers).text(source).steps(vec![read, end]), words.to_vec(), vec![])
+    };
+    let read = |state: [u64; 5], source: &[u8], room: usize, words: [u64; 4]| {
+        (Call::new(Entry::StreamRead, &state).text(source).room(room), words.to_vec(), vec![])
+    };
+    vec![
+        list([1, 6, 4], &[0x05], 4, &[0, 1, 0, HUNGRY, 7, 4, 0, 0]),
+        list([0, 3, 0], &[], 0, &[0, 0, 0, HUNGRY, 7, 0, 0, 0]),
+        // Not rows of the table but what its status rule says of pending bits alone and of space used up.
+        read([0, 0, 9, 6, 0], &[], 9, [0, 0, 3, HUNGRY]),
+        read([0, 0, 9, 6, 0], &[], 3, [0, 0, 3, FULL]),
+        read([0, 0, 3, 6, 0], &[], 3, [0, 0, 3, DONE]),
+    ]
+}
