@@ -87,3 +87,14 @@ module _ (s : ℕ → ℕ) (bits : (i : ℕ) → s i < 2) where
   cut-bits w k h =
       let whole : 0 + k / w * w + k % w ≡ k = rw (zero-add (k / w * w), mul-comm (k / w) w) (div-add-mod k w) in
       word-bit (0 + k / w * w) w (k % w) (mod-lt k h) ∙ ap s whole
+
+-- a bit depends on its digit's low bits alone
+pub bit-low : (w : ℕ) → 0 < w → (f g : ℕ → ℕ) (k : ℕ) → f (k / w) % 2 ^ w ≡ g (k / w) % 2 ^ w → bitAt w f k ≡ bitAt w g k
+bit-low w h f g k e = of f ∙ ap (λ (x : ℕ). x / 2 ^ (w - 1 - k % w) % 2) e ∙ sym (of g)
+  where
+    of : (d : ℕ → ℕ) → bitAt w d k ≡ d (k / w) % 2 ^ w / 2 ^ (w - 1 - k % w) % 2
+    of d =
+        let whole : k / w * w + k % w ≡ k = rw (mul-comm (k / w) w) (div-add-mod k w) in
+        ap (bitAt w d) (sym whole)
+        ∙ sym (word-bit (bitAt w d) (bit-lt w d) (k / w * w) w (k % w) (mod-lt k h))
+        ∙ ap (λ (x : ℕ). x / 2 ^ (w - 1 - k % w) % 2) (word-whole w d (k / w))

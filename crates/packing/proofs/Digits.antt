@@ -1,0 +1,114 @@
+-- A byte's entry in the encoding table, by its low bits, is the byte's digit: a code, and b ones for FF.
+use mathlib.Core.Path.{_≡_, refl, sym, ap, _∙_}
+use mathlib.Core.Bool.{Bool, true, false, cond, true≢false}
+use mathlib.Core.List.{List, [], _∷_, map}
+use mathlib.Core.Logic.{_⊎_, ⊎-elim}
+use Prim.Native.Nat.{ℕ, zero, suc, _+_, _-_, _*_, _/_, _%_, _^_, _≤_, _<_}
+use native.Mathlib.Nat.{mod-eq-of-lt, le-of-suc-le-suc, not-suc-le-zero}
+use native.Mathlib.Omega.{arith}
+use native.Mathlib.Decide.{decLt}
+use lib.Dec.{eqb, ltb, eqb→eq}
+use lib.ListN.{length, length-map, List·getD-eq-default}
+use lib.Pow.{pow-pos}
+use Rattle.bits.specs.Tables.{tabulate, at, Bytes}
+use Rattle.bits.specs.Streams.{word, after, cut}
+use Rattle.bits.specs.Packing.{atHand}
+use Rattle.bits.specs.Memory.{front}
+use Rattle.bits.proofs.Tabulated.{getD-tabulate}
+use Rattle.bits.proofs.Computed.{below}
+use Rattle.bits.proofs.Words.{bit-low, word-ext}
+use Rattle.bits.proofs.Hand.{hand-digit, cut-ext}
+use Rattle.alphabet.specs.declared.kind.AlphabetType.{AlphabetType}
+use Rattle.alphabet.specs.Symbols.{Coding, coding}
+use Rattle.alphabet.proofs.Laws.{lawful, Packed, Plain, shape}
+use Rattle.packing.specs.Encode.{digitOf, digitsOf}
+use Rattle.packing.specs.Run.{Packs, looked}
+
+-- the low b bits of FF are b ones
+pub ones-low : (b : ℕ) → b ≤ 8 → 0xff % 2 ^ b ≡ 2 ^ b - 1
+ones-low b h = eqb→eq (0xff % 2 ^ b) (2 ^ b - 1) (below (λ n. eqb (0xff % 2 ^ n) (2 ^ n - 1)) 9 tt b (omega arith))
+
+-- a digit fits the width
+pub digit-lt : (k : AlphabetType) (v : ℕ) → digitOf (coding k) v < 2 ^ coding k .width
+unfolding digitOf
+digit-lt k v = go (coding k .member v) refl
+  where
+    go : (m : Bool) → coding k .member v ≡ m → cond m (coding k .code v) (2 ^ coding k .width - 1) < 2 ^ coding k .width
+    go true e = lawful k .fits v e
+    go false e = omega (arith, pow-pos (coding k .width))
+
+pub digit-code : (k : AlphabetType) (v : ℕ) → v < 256 → coding k .code v % 2 ^ coding k .width ≡ digitOf (coding k) v
+unfolding digitOf
+digit-code k v h = go (coding k .member v) refl
+  where
+    Goal : Type 0
+    Goal = coding k .code v % 2 ^ coding k .width ≡ 2 ^ coding k .width - 1
+
+    none : coding k .member v ≡ false → Packed (coding k) ⊎ Plain (coding k) → Goal
+    none e (_⊎_.inl packed) =
+        ap (λ (c : ℕ). c % 2 ^ coding k .width) (packed .none v e) ∙ ones-low (coding k .width) (lawful k .narrow)
+    none e (_⊎_.inr plain) = absurd (let z : _≡_ {A = Bool} true false = sym (plain .all v h) ∙ e in true≢false z)
+
+    go : (m : Bool) → coding k .member v ≡ m → coding k .code v % 2 ^ coding k .width ≡ cond m (coding k .code v) (2 ^ coding k .width - 1)
+    go true e = mod-eq-of-lt (lawful k .fits v e)
+    go false e = none e (shape k)
+
+-- entry i of a list that was mapped
+pub at-map : (f : ℕ → ℕ) (xs : List ℕ) (i : ℕ) → i < length xs → at (map f xs) i ≡ f (at xs i)
+at-map f [] i h = absurd (not-suc-le-zero h)
+at-map f (x ∷ xs) zero h = refl
+at-map f (x ∷ xs) (suc i) h = at-map f xs i (le-of-suc-le-suc h)
+
+-- what the loop pushes for byte i of a text is digit i of the bits at hand
+pub looked-digit : (b p a : ℕ) (table text : List ℕ) (i v : ℕ) → i < length text → v ≡ at text i → at table v % 2 ^ b ≡ word (atHand p a b (looked table text)) (p + i * b) b
+looked-digit b p a table text i v h q =
+    ap (λ (x : ℕ). at table x % 2 ^ b) q ∙ ap (λ (x : ℕ). x % 2 ^ b) (sym (at-map (at table) text i h)) ∙ sym (hand-digit p a b (looked table text) i)
+
+-- the digits of a text by an alphabet's encoding table have the bits of its digits by the definition
+pub looked-bits : (k : AlphabetType) (table text : List ℕ) → table ≡ tabulate 256 (coding k .code) → Bytes text → (p a i : ℕ)
+    → atHand p a (coding k .width) (looked table text) i ≡ atHand p a (coding k .width) (digitsOf (coding k) text) i
+unfolding atHand after
+looked-bits k table text t bytes p a i =
+    ap (cond (ltb i p) (a / 2 ^ (p - 1 - i) % 2)) (bit-low b (lawful k .some-bits) (at (looked table text)) (at (digitsOf A text)) (i - p) (same ((i - p) / b)))
+  where
+    A : Coding
+    A = coding k
+
+    b : ℕ
+    b = coding k .width
+
+    same : (j : ℕ) → at (looked table text) j % 2 ^ b ≡ at (digitsOf A text) j % 2 ^ b
+    same j = go (decLt j (length text))
+      where
+        go : Dec (j < length text) → at (looked table text) j % 2 ^ b ≡ at (digitsOf A text) j % 2 ^ b
+        go (yes h) =
+            let entry : at table (at text j) ≡ A .code (at text j) =
+            ap (λ (l : List ℕ). at l (at text j)) t ∙ getD-tabulate 256 (A .code) (at text j) 0 (bytes j) in
+            ap (λ (x : ℕ). x % 2 ^ b) (at-map (at table) text j h ∙ entry)
+            ∙ digit-code k (at text j) (bytes j)
+            ∙ sym (mod-eq-of-lt (digit-lt k (at text j)))
+            ∙ ap (λ (x : ℕ). x % 2 ^ b) (sym (at-map (digitOf A) text j h))
+        go (no h) =
+            ap (λ (x : ℕ). x % 2 ^ b)
+            (List·getD-eq-default (looked table text) 0 {n = j} (rw (length-map text (at table)) (omega arith))
+            ∙ sym (List·getD-eq-default (digitsOf A text) 0 {n = j} (rw (length-map text (digitOf A)) (omega arith))))
+
+-- so a run by the table is a run by the definition
+pub packs-digits : (k : AlphabetType) (table text : List ℕ) → table ≡ tabulate 256 (coding k .code) → Bytes text → (p a : ℕ) (memory : List ℕ) (bits pending : ℕ) (out : List ℕ)
+    → Packs (coding k .width) p a (looked table text) memory bits pending out
+    → Packs (coding k .width) p a (digitsOf (coding k) text) memory bits pending out
+packs-digits k table text t bytes p a memory bits pending out r =
+    let b : ℕ = coding k .width in
+    let len : length (looked table text) ≡ length (digitsOf (coding k) text) = length-map text (at table) ∙ sym (length-map text (digitOf (coding k))) in
+    let same : (i : ℕ) → atHand p a b (looked table text) i ≡ atHand p a b (digitsOf (coding k) text) i = looked-bits k table text t bytes p a in
+    record {
+      left = r .left ∙ ap (λ (n : ℕ). (p + n * b) % 8) len;
+      value =
+          r .value
+          ∙ ap (λ (n : ℕ). word (atHand p a b (looked table text)) ((p + n * b) / 8 * 8) ((p + n * b) % 8)) len
+          ∙ word-ext _ _ ((p + length (digitsOf (coding k) text) * b) / 8 * 8) ((p + length (digitsOf (coding k) text) * b) / 8 * 8) ((p + length (digitsOf (coding k) text) * b) % 8) (λ i h. same _);
+      wrote =
+          r .wrote
+          ∙ ap (λ (n : ℕ). front (cut 8 (atHand p a b (looked table text)) 0 ((p + n * b) / 8)) memory) len
+          ∙ ap (λ (l : List ℕ). front l memory) (cut-ext 8 _ _ 0 ((p + length (digitsOf (coding k) text) * b) / 8) same);
+    }

@@ -1,0 +1,4 @@
+pub mod Digits
+pub mod Turns
+pub mod Search
+pub mod Ends

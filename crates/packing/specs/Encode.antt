@@ -1,0 +1,158 @@
+-- Packing texts. States document 01, "Middle: packing", and questions 1, 4, 5, 8, 9 and 10 for `encode_sequence`, `new`, `update` and `finalize`.
+-- Each call has its answer, from what it is given and the length `room` of its output memory, and the memory afterwards.
+use Prim.Native.Nat.{ℕ, suc, _+_, _-_, _*_, _/_, _%_, _^_}
+use mathlib.Core.Bool.{Bool, true, cond, not, _&&_}
+use mathlib.Core.List.{List, [], _∷_, map}
+use lib.Dec.{leb, ltb, eqb}
+use lib.ListN.{length}
+use Rattle.bits.specs.Streams.{word, cut}
+use Rattle.bits.specs.Packing.{bytesFor, pack, atHand}
+use Rattle.bits.specs.Memory.{front}
+use Rattle.alphabet.specs.declared.kind.AlphabetType.{AlphabetType}
+use Rattle.alphabet.specs.Questions.{ask_else_then_, by, inBounds}
+use Rattle.alphabet.specs.Symbols.{Coding, coding}
+use Rattle.alphabet.specs.Names.{known, kindOf, numbered}
+use Rattle.packing.specs.declared.first.First.{First}
+use Rattle.packing.specs.declared.encoder.SequenceEncoder.{SequenceEncoder}
+use Rattle.packing.specs.declared.encoder.EncoderStarted.{EncoderStarted}
+use Rattle.packing.specs.declared.encoder.Updated.{Updated}
+use Rattle.packing.specs.declared.encoder.Finalized.{Finalized}
+use Rattle.packing.specs.declared.sequence.Encoded.{Encoded}
+
+-- ---- texts
+
+-- the b bits of a byte: a member's code, and for a non-member b ones
+unfoldable pub digitOf : Coding → ℕ → ℕ
+digitOf A v = cond (A .member v) (A .code v) (2 ^ A .width - 1)
+
+abbrev pub digitsOf : Coding → List ℕ → List ℕ
+digitsOf A text = map (digitOf A) text
+
+-- a text's packing
+unfoldable pub packing : Coding → List ℕ → List ℕ
+packing A text = pack (A .width) (digitsOf A text)
+
+-- the first non-member of a text whose first byte has position i
+unfoldable pub firstFrom : Coding → ℕ → List ℕ → First
+firstFrom A i [] = First.Nothing
+firstFrom A i (x ∷ xs) = cond (A .member x) (firstFrom A (suc i) xs) (First.At i x)
+
+-- a first non-member that is known stays
+abbrev pub orFirst : First → First → First
+orFirst First.Nothing later = later
+orFirst (First.At position byte) later = First.At position byte
+
+-- the question whether every byte was a member: what is answered for the first that was none, and what follows where there is none
+abbrev pub unlessBad : {A : Type 0} → First → (ℕ → ℕ → A) → A → A
+unlessBad First.Nothing bad rest = rest
+unlessBad (First.At position byte) bad rest = bad position byte
+
+-- ---- `encode_sequence`
+
+-- asked: alphabet number, length, memory for the packing, every byte a member
+unfoldable pub encodeAt : ℕ → List ℕ → ℕ → Encoded
+encodeAt alphabet text room =
+    ask known alphabet else Encoded.Refused (by 8 []) then
+    ask inBounds (length text) else Encoded.Refused (by 2 []) then
+    ask leb (bytesFor (length text * numbered alphabet .width)) room else Encoded.Refused (by 4 []) then
+    unlessBad (firstFrom (numbered alphabet) 0 text) (λ position byte. Encoded.Refused (by 5 (position ∷ byte ∷ [])))
+    (Encoded.Wrote (bytesFor (length text * numbered alphabet .width)))
+
+-- the bytes that an answer writes: the whole packing
+unfoldable pub encodeWrites : ℕ → List ℕ → Encoded → List ℕ
+encodeWrites alphabet text (Encoded.Wrote count) = packing (numbered alphabet) text
+encodeWrites alphabet text (Encoded.Refused q) = []
+
+-- the output memory afterwards
+unfoldable pub encodeMemory : ℕ → List ℕ → List ℕ → List ℕ
+encodeMemory alphabet text memory = front (encodeWrites alphabet text (encodeAt alphabet text (length memory))) memory
+
+-- ---- the encoder's state
+
+-- the coding that a state packs by
+abbrev pub packsBy : SequenceEncoder → Coding
+packsBy s = coding (s .alphabet)
+
+-- an encoder that has seen nothing
+unfoldable pub freshEncoder : AlphabetType → SequenceEncoder
+freshEncoder k = record { alphabet = k; seen = 0; bits = 0; pending = 0; first = First.Nothing }
+
+-- a first non-member is no member, and was seen
+abbrev pub soundFirst : Coding → ℕ → First → Bool
+soundFirst A seen First.Nothing = true
+soundFirst A seen (First.At position byte) = not (A .member byte) && ltb position seen
+
+-- question 4: symbols seen, pending bit count, pending value, first non-member
+unfoldable pub soundEncoder : SequenceEncoder → Bool
+soundEncoder s =
+    inBounds (s .seen)
+    && eqb (s .bits) (s .seen * packsBy s .width % 8)
+    && ltb (s .pending) (2 ^ s .bits)
+    && soundFirst (packsBy s) (s .seen) (s .first)
+
+-- ---- `new`
+
+-- asked: alphabet number
+unfoldable pub startEncoderAt : ℕ → EncoderStarted
+startEncoderAt alphabet =
+    ask known alphabet else EncoderStarted.Refused (by 8 []) then
+    EncoderStarted.Fresh (freshEncoder (kindOf alphabet))
+
+-- ---- `update`
+
+-- the bits at hand: those that pend, then the piece's
+unfoldable pub pieceBits : SequenceEncoder → List ℕ → ℕ → ℕ
+pieceBits s piece = atHand (s .bits) (s .pending) (packsBy s .width) (digitsOf (packsBy s) piece)
+
+-- how many they are
+unfoldable pub pieceBitCount : SequenceEncoder → ℕ → ℕ
+pieceBitCount s len = s .bits + len * packsBy s .width
+
+-- the state after an accepted piece: the bits past the last whole byte pend
+unfoldable pub updated : SequenceEncoder → List ℕ → SequenceEncoder
+updated s piece =
+    record {
+      alphabet = s .alphabet;
+      seen = s .seen + length piece;
+      bits = pieceBitCount s (length piece) % 8;
+      pending = word (pieceBits s piece) (pieceBitCount s (length piece) / 8 * 8) (pieceBitCount s (length piece) % 8);
+      first = orFirst (s .first) (firstFrom (packsBy s) (s .seen) piece);
+    }
+
+-- asked: state, symbols seen, memory for the bytes that the piece completes
+unfoldable pub updateAt : SequenceEncoder → List ℕ → ℕ → Updated
+updateAt s piece room =
+    ask soundEncoder s else Updated.Refused (by 1 []) s then
+    ask inBounds (s .seen + length piece) else Updated.Refused (by 2 []) s then
+    ask leb (pieceBitCount s (length piece) / 8) room else Updated.Refused (by 4 []) s then
+    Updated.Wrote (pieceBitCount s (length piece) / 8) (updated s piece)
+
+-- the bytes that an answer writes: the first whole bytes at hand
+unfoldable pub updateWrites : SequenceEncoder → List ℕ → Updated → List ℕ
+updateWrites s piece (Updated.Wrote count next) = cut 8 (pieceBits s piece) 0 count
+updateWrites s piece (Updated.Refused q next) = []
+
+-- the output memory afterwards
+unfoldable pub updateMemory : SequenceEncoder → List ℕ → List ℕ → List ℕ
+updateMemory s piece memory = front (updateWrites s piece (updateAt s piece (length memory))) memory
+
+-- ---- `finalize`
+
+-- asked last: memory for a byte where bits pend
+abbrev pub finalizeRest : SequenceEncoder → ℕ → Finalized
+finalizeRest s room = ask leb (bytesFor (s .bits)) room else Finalized.Refused (by 4 []) s then Finalized.Wrote (bytesFor (s .bits))
+
+-- and before it: state, every byte a member
+unfoldable pub finalizeAt : SequenceEncoder → ℕ → Finalized
+finalizeAt s room =
+    ask soundEncoder s else Finalized.Refused (by 1 []) s then
+    unlessBad (s .first) (λ position byte. Finalized.Refused (by 5 (position ∷ byte ∷ [])) s) (finalizeRest s room)
+
+-- the byte that an answer writes: the bits that pend, then zeros
+unfoldable pub finalizeWrites : SequenceEncoder → Finalized → List ℕ
+finalizeWrites s (Finalized.Wrote count) = cut 8 (pieceBits s []) 0 count
+finalizeWrites s (Finalized.Refused q next) = []
+
+-- the output memory afterwards
+unfoldable pub finalizeMemory : SequenceEncoder → List ℕ → List ℕ
+finalizeMemory s memory = front (finalizeWrites s (finalizeAt s (length memory))) memory

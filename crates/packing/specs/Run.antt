@@ -1,0 +1,36 @@
+-- What a run over a text is handed, and what comes of it: digits of b bits behind bits that pend. The public calls' definitions are in Encode.antt; this is the
+-- contract between them and the loop, which knows a table and no alphabet.
+use Prim.Native.Nat.{ℕ, _+_, _*_, _/_, _%_, _^_, _≤_, _<_}
+use mathlib.Core.Path.{_≡_}
+use mathlib.Core.List.{List, map}
+use lib.ListN.{length}
+use Rattle.bits.specs.Tables.{at}
+use Rattle.bits.specs.Streams.{word, cut}
+use Rattle.bits.specs.Packing.{atHand}
+use Rattle.bits.specs.Memory.{front}
+use Rattle.alphabet.specs.Questions.{limit}
+
+-- p bits of value a pend, and there is memory for the bytes that n digits of b bits complete
+pub record Ready (b p a n room : ℕ) : Type 0 where
+  pub some : 0 < b
+  pub narrow : b ≤ 8
+  pub few : p < 8
+  pub small : a < 2 ^ p
+  pub bounded : n ≤ limit
+  pub fits : (p + n * b) / 8 ≤ room
+
+-- a text's entries in a table
+abbrev pub looked : List ℕ → List ℕ → List ℕ
+looked table text = map (at table) text
+
+-- the whole bytes of the bits at hand are written, and the bits behind these pend
+pub record Packs (b p a : ℕ) (digits memory : List ℕ) (bits pending : ℕ) (out : List ℕ) : Type 0 where
+  pub left : bits ≡ (p + length digits * b) % 8
+  pub value : pending ≡ word (atHand p a b digits) ((p + length digits * b) / 8 * 8) ((p + length digits * b) % 8)
+  pub wrote : out ≡ front (cut 8 (atHand p a b digits) 0 ((p + length digits * b) / 8)) memory
+
+-- r is the index of the first byte of a text whose entry in a table is FF, and the text's length where there is none
+pub record Searched (table text : List ℕ) (r : ℕ) : Type 0 where
+  pub within : r ≤ length text
+  pub passed : (j : ℕ) → j < r → at table (at text j) ≡ 0xff → ⊥
+  pub stopped : r < length text → at table (at text r) ≡ 0xff
