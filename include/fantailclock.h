@@ -7,7 +7,10 @@
  * `refusal` is 0 for an accepted call, else a number:
  *   1 unsound state   2 position above 2^60   3 bytes of the range not lent   4 output memory too short   5 a byte that is no member
  *   6 skip above 7    7 bases outstanding     8 no such alphabet              9 more than 8 bits
- * On a refusal no byte of output memory changes, `next` is the state that was handed in, and every further number is 0.
+ * On a refusal no byte of output memory changes, `next` is the state that was handed in, and every further number is 0, but for 5 (`position` and
+ * `byte` of the first non-member). A refused start has no state; it echoes its argument in `next`, so that the state is refused again.
+ *
+ * A state's alphabet above 5 is refused by 8 before all else, a number that fits no field by 1.
  *
  * Alphabets by number: 0 Dna2bit, 1 Dna3bit, 2 DnaIupac, 3 Protein, 4 Ascii, 5 Unknown.
  *
@@ -27,9 +30,18 @@ extern "C" {
 typedef struct { uint64_t refusal, value; } fc_number;
 typedef struct { uint64_t refusal, count; } fc_count;
 
+typedef struct { uint64_t refusal, start, end; } fc_range;
+typedef struct { uint64_t refusal, count, position, byte; } fc_packed;
+
 /* A guesser's state: the mask of the alphabets that hold every byte seen; 16 to 31. */
 typedef struct { uint64_t mask; } fc_guesser;
 typedef struct { uint64_t refusal; fc_guesser next; } fc_guessing;
+
+/* An encoder's state: symbols seen; bits that fill no byte yet and their value; whether a byte was no member, and the first such byte's position over all
+ * pieces and its value (ignored where `has_bad` is 0). */
+typedef struct { uint64_t alphabet, seen, pending_bits, pending, has_bad, bad_position, bad_byte; } fc_encoder;
+typedef struct { uint64_t refusal; fc_encoder next; } fc_encoder_started;
+typedef struct { uint64_t refusal, count; fc_encoder next; } fc_updated;
 
 /* The version of this header's structs: 1. */
 uint64_t fc_abi_version(void);
@@ -55,6 +67,23 @@ fc_number fc_guesser_guess(fc_guesser state);
 
 /* The same for a whole text. Refuses nothing. */
 fc_number fc_guess_alphabet(const uint8_t *text, size_t len);
+
+/* An encoder that has seen nothing. Refuses by 8. */
+fc_encoder_started fc_encoder_new(uint64_t alphabet);
+
+/* Packs a piece behind what pends and writes the bytes that it completes, `count` of them, at the front of `out`: (pending_bits + len * bits per symbol) / 8.
+ * A byte that is no member counts as a symbol whose bits are all ones, and is reported by fc_encoder_finalize. Refuses by 8, 1, 2, 4. */
+fc_updated fc_encoder_update(fc_encoder state, const uint8_t *piece, size_t len, uint8_t *out, size_t room);
+
+/* Writes the last byte, where bits pend, with zeros behind them; `count` is 0 or 1. It hands no state back: the caller still holds it.
+ * Refuses by 8, 1, 5, 4. */
+fc_packed fc_encoder_finalize(fc_encoder state, uint8_t *out, size_t room);
+
+/* The whole packing of a text, (len * bits per symbol + 7) / 8 bytes. Refuses by 8, 2, 4, 5; on a refusal nothing is written. */
+fc_packed fc_encode_sequence(uint64_t alphabet, const uint8_t *text, size_t len, uint8_t *out, size_t room);
+
+/* The bytes of a packed file that hold the bases from `start` to `end`, not including `end`; the same formula where start exceeds end. Refuses by 9, 2. */
+fc_range fc_byte_range_for_bases(uint64_t start, uint64_t end, uint64_t bits);
 
 #ifdef __cplusplus
 }

@@ -1,2 +1,3 @@
 pub mod Told
 pub mod Front
+pub mod Hosted

@@ -2,10 +2,12 @@
 use Prim.Native.Nat.{ℕ}
 use mathlib.Core.List.{List}
 use Rattle.bits.specs.Tables.{at}
-use Rattle.alphabet.specs.Questions.{Reply, accepted, refused, numberIn, valueIn}
+use Rattle.alphabet.specs.Questions.{Reply, accepted, refused, numberIn, valueIn, detailIn}
 use Rattle.alphabet.specs.declared.guesser.AlphabetGuesser.{AlphabetGuesser}
 use Rattle.fantailclock.specs.declared.shapes.Number.{Number}
 use Rattle.fantailclock.specs.declared.shapes.Count.{Count}
+use Rattle.fantailclock.specs.declared.shapes.Range.{Range}
+use Rattle.fantailclock.specs.declared.shapes.Packed.{Packed}
 use Rattle.fantailclock.specs.declared.shapes.Guesser.{Guesser}
 use Rattle.fantailclock.specs.declared.shapes.Guessing.{Guessing}
 
@@ -16,6 +18,14 @@ number reply = record { refusal = numberIn reply; value = valueIn 0 reply }
 -- one count
 abbrev pub count : Reply → Count
 count reply = record { refusal = numberIn reply; count = valueIn 0 reply }
+
+-- a byte range
+abbrev pub range : Reply → Range
+range reply = record { refusal = numberIn reply; start = valueIn 0 reply; end = valueIn 1 reply }
+
+-- bytes written, or position and byte of a non-member
+abbrev pub packed : Reply → Packed
+packed reply = record { refusal = numberIn reply; count = valueIn 0 reply; position = detailIn 0 reply; byte = detailIn 1 reply }
 
 -- a guesser as a host's number
 abbrev pub hosted : AlphabetGuesser → Guesser

@@ -22,3 +22,43 @@ pub struct Guessing {
     pub refusal: u64,
     pub next: Guesser,
 }
+
+#[repr(C)]
+pub struct Range {
+    pub refusal: u64,
+    pub start: u64,
+    pub end: u64,
+}
+
+#[repr(C)]
+pub struct Packed {
+    pub refusal: u64,
+    pub count: u64,
+    pub position: u64,
+    pub byte: u64,
+}
+
+// An encoder's state; the last two are of no account where `has_bad` is 0.
+#[repr(C)]
+pub struct Encoder {
+    pub alphabet: u64,
+    pub seen: u64,
+    pub pending_bits: u64,
+    pub pending: u64,
+    pub has_bad: u64,
+    pub bad_position: u64,
+    pub bad_byte: u64,
+}
+
+#[repr(C)]
+pub struct EncoderStarted {
+    pub refusal: u64,
+    pub next: Encoder,
+}
+
+#[repr(C)]
+pub struct Updated {
+    pub refusal: u64,
+    pub count: u64,
+    pub next: Encoder,
+}

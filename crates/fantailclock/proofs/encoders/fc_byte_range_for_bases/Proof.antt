@@ -1,0 +1,37 @@
+use borrow.Author.Needs.{needs}
+use Rattle.fantailclock.proofs.Hosted.{range-bytes, range-refused}
+use Rattle.fantailclock.proofs.encoders.fc_byte_range_for_bases.Statement.{statement}
+use Rattle.fantailclock.proofs.encoders.fc_byte_range_for_bases.Tie as tie
+
+byte-range-for-bases-requires : tie.Need-byte-range-for-bases-requires
+byte-range-for-bases-requires c κs = search needs
+
+enum-known-from : tie.Need-enum-known-from
+enum-known-from c = search needs
+
+enum-known-refusal : tie.Need-enum-known-refusal
+enum-known-refusal c = search needs
+
+number-requires : tie.Need-number-requires
+number-requires c κs = search needs
+
+cast-t15 : tie.Need-cast-t15
+cast-t15 c = search needs
+
+returns : tie.Need-returns
+returns c = range-bytes (c .before .before .before .byte-range-for-bases .result) _ _ _ (c .before .from .given .1) (c .before .before .before .byte-range-for-bases .ensures)
+
+returns-2 : tie.Need-returns-2
+returns-2 c = range-refused (c .before .before .before .before .byte-range-for-bases .result) _ _ (c .number .result) (c .before .before .refusal .given .1) (c .before .before .before .before .byte-range-for-bases .ensures) (c .number .ensures)
+
+pub fc-byte-range-for-bases-spec : {M : Type 1} → statement M
+fc-byte-range-for-bases-spec =
+    tie.close
+    (tie.spec
+    byte-range-for-bases-requires
+    enum-known-from
+    enum-known-refusal
+    number-requires
+    cast-t15
+    returns
+    returns-2)

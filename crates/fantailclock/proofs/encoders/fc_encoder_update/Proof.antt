@@ -1,0 +1,66 @@
+use mathlib.Core.Path.{sym, _∙_}
+use borrow.Author.Needs.{needs}
+use Rattle.fantailclock.proofs.Hosted.{update-no, update-wrote, update-refused}
+use Rattle.fantailclock.proofs.encoders.fc_encoder_update.Statement.{statement}
+use Rattle.fantailclock.proofs.encoders.fc_encoder_update.Tie as tie
+
+state-of-requires : tie.Need-state-of-requires
+state-of-requires c κs = search needs
+
+enum-known-stands : tie.Need-enum-known-stands
+enum-known-stands c = search needs
+
+enum-known-stands-2 : tie.Need-enum-known-stands-2
+enum-known-stands-2 c = search needs
+
+update-requires : tie.Need-update-requires
+update-requires c κs = search needs
+
+enum-known-count : tie.Need-enum-known-count
+enum-known-count c = search needs
+
+encoder-of-requires : tie.Need-encoder-of-requires
+encoder-of-requires c κs = search needs
+
+enum-known-refusal : tie.Need-enum-known-refusal
+enum-known-refusal c = search needs
+
+number-requires : tie.Need-number-requires
+number-requires c κs = search needs
+
+cast-t18 : tie.Need-cast-t18
+cast-t18 c = search needs
+
+returns : tie.Need-returns
+returns c = let a = c .before .before .before .before .before .before .args in update-no (a .state) (a .piece .now) (a .out .now) _ (sym (c .before .stands .given .1) ∙ c .before .before .before .state-of .ensures)
+
+same-length : tie.Need-same-length
+same-length c = search needs
+
+returns-2 : tie.Need-returns-2
+returns-2 c = let a = c .before .before .before .before .before .before .before .before .before .before .before .before .before .before .args in let k = c .before .before .before .before .before .before .update in update-wrote (a .state) (a .piece .now) (a .out .now) _ (sym (c .before .before .before .before .before .before .before .before .before .stands2 .given .1) ∙ c .before .before .before .before .before .before .before .before .before .before .before .state-of .ensures) (k .result) _ _ (c .before .before .count .given .1) (k .ensures .0) (c .encoder-of .result) (c .encoder-of .ensures) _ (k .ensures .1)
+
+same-length-2 : tie.Need-same-length-2
+same-length-2 c = search needs
+
+returns-3 : tie.Need-returns-3
+returns-3 c = let a = c .before .before .before .before .before .before .before .before .before .before .before .before .before .before .args in let k = c .before .before .before .before .before .before .update in update-refused (a .state) (a .piece .now) (a .out .now) _ (sym (c .before .before .before .before .before .before .before .before .before .stands2 .given .1) ∙ c .before .before .before .before .before .before .before .before .before .before .before .state-of .ensures) (k .result) _ _ (c .before .before .refusal .given .1) (k .ensures .0) (c .number .result) (c .number .ensures) _ (k .ensures .1)
+
+pub fc-encoder-update-spec : {M : Type 1} → statement M
+fc-encoder-update-spec =
+    tie.close
+    (tie.spec
+    state-of-requires
+    enum-known-stands
+    enum-known-stands-2
+    update-requires
+    enum-known-count
+    encoder-of-requires
+    enum-known-refusal
+    number-requires
+    cast-t18
+    returns
+    same-length
+    returns-2
+    same-length-2
+    returns-3)
