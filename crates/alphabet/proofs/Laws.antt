@@ -1,13 +1,13 @@
 -- The laws of symbols and codes that the crates above cite. They open no definition of this crate: what they know of an alphabet stands here.
 use mathlib.Core.Path.{_≡_, refl, sym, ap, _∙_}
-use mathlib.Core.Bool.{Bool, true, false, not}
+use mathlib.Core.Bool.{Bool, true, false, not, _||_, true≢false}
 use mathlib.Core.List.{List, map}
 use mathlib.Core.Logic.{_⊎_, inl, inr}
 use Prim.Native.Char.{code as ascii}
 use Prim.Native.Nat.{ℕ, _+_, _^_, _≤_, _<_}
 use native.Mathlib.Nat.{pow-le-pow-right}
 use native.Mathlib.Omega.{arith}
-use borrow.Author.Tests.{ltb-true, lt-ltb, eq-eqb, ne-eqb}
+use borrow.Author.Tests.{ltb-true, lt-ltb, eq-eqb, ne-eqb, eqb-true}
 use lib.Dec.{T, eqb, ltb, eqb→eq, lit≤, lit<}
 use Rattle.bits.proofs.Computed.{below, T-true}
 use Rattle.alphabet.specs.declared.kind.AlphabetType.{AlphabetType}
@@ -121,6 +121,20 @@ shape Protein = inl (listed-packed 5 protein _ (lit≤ tt) (lists-checked .of-pr
 shape Ascii = inr plain-plain
 shape Unknown = inr plain-plain
 
+-- ---- the bits per symbol
+
+pub record Widths : Type 0 where
+  pub of-dna2bit : coding Dna2bit .width ≡ 2
+  pub of-dna3bit : coding Dna3bit .width ≡ 3
+  pub of-dnaIupac : coding DnaIupac .width ≡ 4
+  pub of-protein : coding Protein .width ≡ 5
+  pub of-ascii : coding Ascii .width ≡ 8
+  pub of-unknown : coding Unknown .width ≡ 8
+
+pub widths : Widths
+unfolding coding listed plain
+widths = record { of-dna2bit = refl; of-dna3bit = refl; of-dnaIupac = refl; of-protein = refl; of-ascii = refl; of-unknown = refl }
+
 -- ---- exactly which bytes are members
 
 pub record Members : Type 0 where
@@ -173,3 +187,23 @@ assigned-codes =
       of-protein = listed-assigned 5 protein _ 29 (lists-checked .of-protein) (below (among (map codeOf protein)) 29 tt);
       past-protein = λ i h. eqb→eq (coding Protein .symbol (29 + i)) (ascii "X") (below (λ j. eqb (coding Protein .symbol (29 + j)) (ascii "X")) 3 tt i h);
     }
+
+-- ---- UCSC's codes
+
+-- a member of Dna2bit is one of four letters, with these codes
+pub data Ucsc (v : ℕ) : Type 0 where
+  is-t : v ≡ ascii "T" → coding Dna2bit .code v ≡ 0 → Ucsc v
+  is-c : v ≡ ascii "C" → coding Dna2bit .code v ≡ 1 → Ucsc v
+  is-a : v ≡ ascii "A" → coding Dna2bit .code v ≡ 2 → Ucsc v
+  is-g : v ≡ ascii "G" → coding Dna2bit .code v ≡ 3 → Ucsc v
+
+pub dna2bit-codes : (v : ℕ) → coding Dna2bit .member v ≡ true → Ucsc v
+unfolding coding listed canon among found dna2bit coded bytesOf
+dna2bit-codes v m = go (eqb v (ascii "T")) refl (eqb v (ascii "C")) refl (eqb v (ascii "A")) refl (eqb v (ascii "G")) refl m
+  where
+    go : (t : Bool) → eqb v (ascii "T") ≡ t → (c : Bool) → eqb v (ascii "C") ≡ c → (a : Bool) → eqb v (ascii "A") ≡ a → (g : Bool) → eqb v (ascii "G") ≡ g → (t || (c || (a || (g || false)))) ≡ true → Ucsc v
+    go true p c q a r g s e = let h : v ≡ ascii "T" = eqb-true v (ascii "T") p in is-t h (ap (coding Dna2bit .code) h)
+    go false p true q a r g s e = let h : v ≡ ascii "C" = eqb-true v (ascii "C") q in is-c h (ap (coding Dna2bit .code) h)
+    go false p false q true r g s e = let h : v ≡ ascii "A" = eqb-true v (ascii "A") r in is-a h (ap (coding Dna2bit .code) h)
+    go false p false q false r true s e = let h : v ≡ ascii "G" = eqb-true v (ascii "G") s in is-g h (ap (coding Dna2bit .code) h)
+    go false p false q false r false s e = absurd (true≢false (sym e))
