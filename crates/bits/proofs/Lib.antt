@@ -2,3 +2,5 @@ pub mod Tabulated
 pub mod Computed
 pub mod Words
 pub mod Packed
+pub mod Put
+pub mod Blocks
