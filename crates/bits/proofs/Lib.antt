@@ -4,3 +4,4 @@ pub mod Words
 pub mod Packed
 pub mod Put
 pub mod Blocks
+pub mod Files
