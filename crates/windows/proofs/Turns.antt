@@ -1,0 +1,122 @@
+-- One law for each turn of this crate's loops: what is written, and what is held.
+use mathlib.Core.Path.{_≡_, refl, sym, ap, ap₂, _∙_}
+use mathlib.Core.List.{List, [], _∷_, _++_, map}
+use Prim.Native.Nat.{ℕ, suc, _+_, _-_, _*_, _/_, _%_, _^_, _≤_, _<_}
+use native.Mathlib.Nat.{add-zero, add-assoc, add-mul, one-mul, mul-comm, mul-le-mul, mod-eq-of-lt, lt-of-lt-of-le}
+use native.Mathlib.Decide.{decLt}
+use native.Mathlib.Omega.{arith}
+use lib.ListN.{length, getD, set}
+use lib.Pow.{pow-mono}
+use Rattle.bits.specs.Tables.{tabulate, at}
+use Rattle.bits.specs.Streams.{bitAt, word, cut, fields}
+use Rattle.bits.specs.Packing.{fileByte, codesFrom}
+use Rattle.bits.specs.Memory.{putAt}
+use Rattle.bits.proofs.Tabulated.{getD-tabulate}
+use Rattle.bits.proofs.Words.{word-add, word-lt, word-high, word-low, bit-lt}
+use Rattle.bits.proofs.Put.{put-none, put-one, put-length, put-put}
+use Rattle.bits.proofs.Blocks.{word-byte, block-codes}
+use Rattle.alphabet.specs.Symbols.{Coding}
+use Rattle.windows.specs.declared.rolling.Held.{Held}
+use Rattle.windows.specs.Window.{window}
+use Rattle.windows.specs.Workers.{Decodes, Holds, symbolsOf}
+use Rattle.windows.proofs.Windows.{baseAt, window-bases, length-window, window-add, window-one}
+
+-- ---- what is written
+
+module _ (A : Coding) (lent : List ℕ) (offset : ℕ) where
+  -- n bases from `start` on stand in memory from place `from` on
+  abbrev pub Written : (from start n : ℕ) (memory out : List ℕ) → Type 0
+  Written from start n memory out = out ≡ putAt from (window A lent offset start n) memory
+
+  -- none yet
+  pub none-written : (from start : ℕ) (memory : List ℕ) → Written from start 0 memory memory
+  unfolding tabulate
+  none-written from start memory = sym (ap (λ (l : List ℕ). putAt from l memory) (window-bases A lent offset start 0) ∙ put-none from memory)
+
+  module _ (from start n : ℕ) (memory out : List ℕ) (done : Written from start n memory out) where
+    pub written-length : from + n ≤ length memory → length out ≡ length memory
+    written-length room =
+        let len : length (window A lent offset start n) ≡ n = length-window A lent offset start n in
+        ap length done ∙ put-length from (window A lent offset start n) memory (omega arith)
+
+    -- m more behind them
+    pub more-written : (m : ℕ) (xs : List ℕ) → from + n + m ≤ length memory → xs ≡ window A lent offset (start + n) m → Written from start (n + m) memory (putAt (from + n) xs out)
+    more-written m xs room e =
+        let w : List ℕ = window A lent offset start n in
+        let len : length w ≡ n = length-window A lent offset start n in
+        ap (λ (k : ℕ). putAt (from + k) xs out) (sym len)
+        ∙ ap (putAt (from + length w) xs) done
+        ∙ put-put from w memory (omega arith) xs
+        ∙ ap (λ (l : List ℕ). putAt from l memory) (ap (λ (l : List ℕ). w ++ l) e ∙ sym (window-add A lent offset start n m))
+
+    -- one more
+    pub one-written : (v : ℕ) → from + n + 1 ≤ length memory → v ≡ baseAt A lent offset (start + n) → Written from start (n + 1) memory (set out (from + n) v)
+    one-written v room e =
+        put-one (from + n) v out (omega (arith, written-length (omega arith)))
+        ∙ more-written 1 (v ∷ []) room (ap (λ (x : ℕ). x ∷ []) e ∙ sym (window-one A lent offset (start + n)))
+
+-- ---- what is held
+
+module _ (byte : ℕ → ℕ) (small : (j : ℕ) → byte j < 256) where
+  s : ℕ → ℕ
+  s = bitAt 8 byte
+
+  byte-word : (j : ℕ) → word (bitAt 8 byte) (8 * j) 8 ≡ byte j
+  byte-word j = ap (λ (x : ℕ). word (bitAt 8 byte) x 8) (mul-comm 8 j) ∙ word-byte byte small j
+
+  pub acc-lt : (place : ℕ) (h : Held) → Holds byte place h → h .acc < 2 ^ h .have
+  acc-lt place h r = rw (r .value) (word-lt (bitAt 8 byte) (bit-lt 8 byte) place (h .have))
+
+  -- at a byte's first bit nothing is held
+  pub prime-none : (bit : ℕ) (h : Held) → bit % 8 ≡ 0 → h .next ≡ bit / 8 → h .have ≡ 0 → h .acc ≡ 0 → Holds byte bit h
+  unfolding word
+  prime-none bit h e n f a = record { up-to = omega arith; value = a ∙ sym (ap (word (bitAt 8 byte) bit) f) }
+
+  -- elsewhere, what is left of the byte
+  pub prime-some : (bit : ℕ) (h : Held) → h .next ≡ bit / 8 + 1 → h .have ≡ 8 - bit % 8 → h .acc ≡ byte (bit / 8) % 2 ^ (8 - bit % 8) → Holds byte bit h
+  prime-some bit h n f a =
+      let skip : ℕ = bit % 8 in
+      let have : ℕ = 8 - skip in
+      let sum : 8 ≡ skip + have = omega arith in
+      let start : 8 * (bit / 8) + skip ≡ bit = omega arith in
+      record {
+        up-to = omega arith;
+        value =
+            a
+            ∙ ap (λ (x : ℕ). x % 2 ^ have) (sym (byte-word (bit / 8)) ∙ ap (word (bitAt 8 byte) (8 * (bit / 8))) sum)
+            ∙ word-low (bitAt 8 byte) (bit-lt 8 byte) (8 * (bit / 8)) skip have
+            ∙ ap₂ (word (bitAt 8 byte)) start (sym f);
+      }
+
+  -- one byte more
+  pub refill-more : (place : ℕ) (h h′ : Held) → Holds byte place h → h′ .next ≡ h .next + 1 → h′ .have ≡ h .have + 8 → h′ .acc ≡ h .acc * 256 + byte (h .next) → Holds byte place h′
+  refill-more place h h′ r n f a =
+      record {
+        up-to = omega (arith, r .up-to);
+        value =
+            a
+            ∙ ap₂ (λ (x y : ℕ). x * 2 ^ 8 + y) (r .value) (sym (byte-word (h .next)) ∙ ap (λ (x : ℕ). word (bitAt 8 byte) x 8) (r .up-to))
+            ∙ sym (word-add (bitAt 8 byte) place (h .have) 8)
+            ∙ ap (word (bitAt 8 byte) place) (sym f);
+      }
+
+  -- the next code, and the bits behind it
+  module _ (b place : ℕ) (h : Held) (r : Holds byte place h) (full : b ≤ h .have) where
+    whole : h .acc ≡ word (bitAt 8 byte) place (b + (h .have - b))
+    whole =
+        let sum : h .have ≡ b + (h .have - b) = omega arith in
+        r .value ∙ ap (word (bitAt 8 byte) place) sum
+
+    pub take-code : h .acc / 2 ^ (h .have - b) ≡ word (bitAt 8 byte) place b
+    take-code = ap (λ (x : ℕ). x / 2 ^ (h .have - b)) whole ∙ word-high (bitAt 8 byte) (bit-lt 8 byte) place b (h .have - b)
+
+    pub take-rest : (h′ : Held) → h′ .next ≡ h .next → h′ .have ≡ h .have - b → h′ .acc ≡ h .acc % 2 ^ (h .have - b) → Holds byte (place + b) h′
+    take-rest h′ n f a =
+        record {
+          up-to = omega (arith, r .up-to);
+          value =
+              a
+              ∙ ap (λ (x : ℕ). x % 2 ^ (h .have - b)) whole
+              ∙ word-low (bitAt 8 byte) (bit-lt 8 byte) place b (h .have - b)
+              ∙ ap (word (bitAt 8 byte) (place + b)) (sym f);
+        }

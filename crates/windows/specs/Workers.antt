@@ -1,0 +1,27 @@
+-- What the private functions of this crate ask and say; no public contract cites it.
+use mathlib.Core.Path.{_≡_}
+use mathlib.Core.List.{List, map}
+use Prim.Native.Nat.{ℕ, _+_, _*_, _^_, _≤_, _<_}
+use Rattle.bits.specs.Tables.{tabulate}
+use Rattle.bits.specs.Streams.{bitAt, word, fields}
+use Rattle.alphabet.specs.Symbols.{Coding}
+use Rattle.windows.specs.declared.rolling.Held.{Held}
+
+-- a window that passed the questions: its end is near, and memory has space for its bases from place `from` on
+pub record Fits (start count from room : ℕ) : Type 0 where
+  pub near : start + count ≤ 2 ^ 60
+  pub space : from + count ≤ room
+
+-- the decoding table of an alphabet whose codes have at most five bits
+pub record Decodes (A : Coding) (table : List ℕ) : Type 0 where
+  pub five : A .width ≤ 5
+  pub entries : table ≡ tabulate 32 (A .symbol)
+
+-- the bits at hand are those from bit `place` on, up to byte `next`; `acc` is the number that they write
+pub record Holds (byte : ℕ → ℕ) (place : ℕ) (held : Held) : Type 0 where
+  pub up-to : 8 * held .next ≡ place + held .have
+  pub value : held .acc ≡ word (bitAt 8 byte) place (held .have)
+
+-- the symbols of the c codes, b bits wide, that a number writes
+unfoldable pub symbolsOf : Coding → ℕ → ℕ → List ℕ
+symbolsOf A c v = map (A .symbol) (fields (A .width) c v)
