@@ -55,12 +55,29 @@ module _ (A : Coding) (lent : List ℕ) (offset : ℕ) where
         put-one (from + n) v out (omega (arith, written-length (omega arith)))
         ∙ more-written 1 (v ∷ []) room (ap (λ (x : ℕ). x ∷ []) e ∙ sym (window-one A lent offset (start + n)))
 
+-- ---- what is decoded
+
+-- the table's entry at a code of a file is the base
+pub decoded : (A : Coding) (lent : List ℕ) (offset b i code : ℕ) (table : List ℕ) → A .width ≡ b → b ≤ 5 → table ≡ tabulate 32 (A .symbol)
+    → code ≡ word (bitAt 8 (fileByte lent offset)) (i * b) b → (code < 32) × (at table code ≡ baseAt A lent offset i)
+unfolding baseAt
+decoded A lent offset b i code table width five entries e =
+    let s : ℕ → ℕ = bitAt 8 (fileByte lent offset) in
+    let fit : word s (i * b) b < 2 ^ 5 = lt-of-lt-of-le (word-lt s (bit-lt 8 (fileByte lent offset)) (i * b) b) (pow-mono five) in
+    let less : code < 32 = omega arith in
+    (less, ap (λ (t : List ℕ). at t code) entries ∙ getD-tabulate 32 (A .symbol) code 0 less ∙ ap (A .symbol) (e ∙ ap (λ (w : ℕ). word s (i * w) w) (sym width)))
+
+-- a bit's place fits 64 bits
+pub bit-fits : {i b : ℕ} → i ≤ 2 ^ 60 → b ≤ 5 → i * b ≤ 2 ^ 63
+bit-fits l h = mul-le-mul {n₂ = 2 ^ 60} {m₂ = 8} l (omega arith)
+
+-- one code on
+pub one-on : (s n b : ℕ) → (s + n) * b + b ≡ (s + (n + 1)) * b
+one-on s n b = rw (← add-assoc s n 1, add-mul (s + n) 1 b, one-mul b)
+
 -- ---- what is held
 
 module _ (byte : ℕ → ℕ) (small : (j : ℕ) → byte j < 256) where
-  s : ℕ → ℕ
-  s = bitAt 8 byte
-
   byte-word : (j : ℕ) → word (bitAt 8 byte) (8 * j) 8 ≡ byte j
   byte-word j = ap (λ (x : ℕ). word (bitAt 8 byte) x 8) (mul-comm 8 j) ∙ word-byte byte small j
 

@@ -28,7 +28,7 @@ map-tabulate f g (suc n) = map-append f (tabulate n g) (g n ∷ []) ∙ ap (λ (
 
 module _ (A : Coding) (lent : List ℕ) (offset : ℕ) where
   -- base i of a file: the symbol of the b bits at i * b
-  pub baseAt : ℕ → ℕ
+  unfoldable pub baseAt : ℕ → ℕ
   baseAt i = A .symbol (word (bitAt 8 (fileByte lent offset)) (i * A .width) (A .width))
 
   -- a window is its bases

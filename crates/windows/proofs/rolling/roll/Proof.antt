@@ -1,83 +1,150 @@
+use mathlib.Core.Path.{_≡_, refl, sym, ap, _∙_}
+use mathlib.Core.List.{List}
+use Prim.Native.Nat.{ℕ, _+_, _-_, _*_, _^_, _≤_, _<_, zero-le}
+use native.Mathlib.Nat.{add-zero, add-assoc, lt-of-lt-of-le}
+use native.Mathlib.Omega.{arith}
+use lib.ListN.{length, length-set}
+use lib.Pow.{pow-mono}
 use borrow.Author.Needs.{needs}
+use Rattle.bits.specs.Tables.{tabulate, at}
+use Rattle.bits.specs.Packing.{fileByte}
+use Rattle.bits.proofs.Files.{file-small}
+use Rattle.alphabet.specs.Symbols.{Coding, coding}
+use Rattle.windows.specs.Workers.{Holds}
+use Rattle.windows.proofs.Windows.{baseAt}
+use Rattle.windows.proofs.Turns.{Written, none-written, one-written, decoded, bit-fits, one-on, acc-lt, take-code, take-rest}
 use Rattle.windows.proofs.rolling.roll.Statement.{statement}
 use Rattle.windows.proofs.rolling.roll.Tie as tie
-use Rattle.windows.proofs.rolling.roll.Reads as reads
-use Rattle.windows.proofs.rolling.roll.Lts as lts
-use Rattle.alphabet.proofs.kind.AlphabetType.bits_per_symbol.Reads as bits-per-symbol-reads
-use Rattle.windows.proofs.rolling.above.Reads as above-reads
-use Rattle.windows.proofs.rolling.low.Reads as low-reads
-use Rattle.windows.proofs.rolling.prime.Reads as prime-reads
-use Rattle.windows.proofs.rolling.refill.Reads as refill-reads
 
 abbrev Inv-loop : tie.InvT-loop
-Inv-loop table bytes offset start count out₀ from b held₀ n₀ out held n = ?
+Inv-loop table bytes offset start count out₀ from b held₀ n₀ out held n =
+    (n ≤ count) × (held .have < 8) × Holds (fileByte bytes offset) ((start + n) * b) held × (length out ≡ length out₀)
+    × ((A : Coding) → A .width ≡ b → table ≡ tabulate 32 (A .symbol) → Written A bytes offset from start n out₀ out)
 
 abbrev μ-loop : tie.MeasureT-loop
-μ-loop table bytes offset start count out₀ from b held₀ n₀ out held n = ?
+μ-loop table bytes offset start count out₀ from b held₀ n₀ out held n = count - n
 
--- src/rolling.rt:112:9
+-- the place where the loop begins, and what leads to it
+abbrev Begun : Type 0
+Begun = tie.After-prime Inv-loop μ-loop
+
+abbrev start : (p : Begun) → tie.Start Inv-loop μ-loop
+start p = p .before .before .before .before
+
+abbrev byte : Begun → ℕ → ℕ
+byte p = fileByte (start p .args .bytes .now) (start p .args .offset)
+
+abbrev width : Begun → ℕ
+width p = p .before .bits-per-symbol .result
+
+small : (p : Begun) (j : ℕ) → byte p j < 256
+small p j = file-small _ _ j (λ i. p .before .before .before .shared-slice-known .given i .fits)
+
+five : (p : Begun) → width p ≤ 5
+five p = omega (arith, start p .pre .0 .five, p .before .bits-per-symbol .ensures)
+
+-- what a refill leaves
+full : (c : tie.After-refill Inv-loop μ-loop)
+    → Holds (byte (c .before .before .before)) ((start (c .before .before .before) .args .start + c .before .before .loop .n) * width (c .before .before .before)) (c .refill .result)
+full c = c .refill .ensures .2 _ (c .before .before .loop .inv .2)
+
+-- the entry at the code is the base
+base : (c : tie.After-above Inv-loop μ-loop) (A : Coding)
+    → A .width ≡ width (c .before .before .before .before .before) → start (c .before .before .before .before .before) .args .table .now ≡ tabulate 32 (A .symbol)
+    → (c .above .result < 32) × (at (start (c .before .before .before .before .before) .args .table .now) (c .above .result)
+    ≡ baseAt A (start (c .before .before .before .before .before) .args .bytes .now) (start (c .before .before .before .before .before) .args .offset)
+    (start (c .before .before .before .before .before) .args .start + c .before .before .before .before .loop .n))
+base c A w t =
+    let r = c .before .before in
+    let p = r .before .before .before in
+    decoded A _ _ (width p) _ (c .above .result) _ w (five p) t (c .above .ensures ∙ take-code (byte p) (small p) (width p) _ (r .refill .result) (full r) (r .refill .ensures .0))
+
 bits-per-symbol-requires : tie.Need-bits-per-symbol-requires Inv-loop μ-loop
 bits-per-symbol-requires c κs = search needs
 
--- src/rolling.rt:113:41
 mul-prime : tie.Need-mul-prime Inv-loop μ-loop
-mul-prime c = search needs
+mul-prime c =
+    let s = c .before .before .before in
+    let w : c .bits-per-symbol .result ≤ 5 = omega (arith, s .pre .0 .five, c .bits-per-symbol .ensures) in
+    omega (arith, bit-fits {i = s .args .start} (omega (arith, s .pre .1 .near)) w)
 
--- src/rolling.rt:113:9
 prime-requires : tie.Need-prime-requires Inv-loop μ-loop
-prime-requires c κs = search needs
+prime-requires c κs =
+    let s = c .before .before .before in
+    bit-fits (omega (arith, s .pre .1 .near)) (omega (arith, s .pre .0 .five, c .bits-per-symbol .ensures))
 
--- src/rolling.rt:115:5
 loop-holds : tie.Need-loop-holds Inv-loop μ-loop
-loop-holds c = search needs
+loop-holds c =
+    let a = start c .args in
+    (zero-le, c .prime .ensures .0, rw (add-zero (a .start)) (c .prime .ensures .1), refl, λ A w t. none-written A (a .bytes .now) (a .offset) (a .from) (a .start) (a .out .now))
 
--- src/rolling.rt:116:9
 refill-requires : tie.Need-refill-requires Inv-loop μ-loop
-refill-requires c κs = search needs
+refill-requires c κs =
+    let l = c .before .loop in
+    let p = c .before .before in
+    let near : (start p .args .start + l .n) * width p ≤ 2 ^ 63 = bit-fits (omega (arith, start p .pre .1 .near)) (five p) in (
+      l .inv .1,
+      lt-of-lt-of-le (acc-lt (byte p) (small p) _ (l .held) (l .inv .2)) (pow-mono {j = 8} (omega (arith, l .inv .1))),
+      omega (arith, near, l .inv .2 .up-to, l .inv .1),
+      omega (arith, five p),
+    )
 
--- src/rolling.rt:117:20
 sub-have : tie.Need-sub-have Inv-loop μ-loop
-sub-have c = search needs
+sub-have c = c .before .refill .ensures .0
 
--- src/rolling.rt:118:13
 above-requires : tie.Need-above-requires Inv-loop μ-loop
-above-requires c κs = search needs
+above-requires c κs = omega (arith, c .before .refill .ensures .1)
 
--- src/rolling.rt:119:25
 element-copy-out-out : tie.Need-element-copy-out-out Inv-loop μ-loop
-element-copy-out-out c = search needs
+element-copy-out-out c =
+    let p = c .before .before .before .before .before in
+    base c (coding (start p .args .kind)) (sym (p .before .bits-per-symbol .ensures)) (start p .pre .0 .entries) .0
 
--- src/rolling.rt:119:13
 add-out : tie.Need-add-out Inv-loop μ-loop
-add-out c = search needs
+add-out c =
+    let l = c .before .before .before .before in
+    let s = start (l .before .before) in
+    omega (arith, l .loop-test .taken, s .pre .1 .space, s .good)
 
--- src/rolling.rt:119:9
 slice-write-out : tie.Need-slice-write-out Inv-loop μ-loop
-slice-write-out c = search needs
+slice-write-out c =
+    let l = c .before .before .before .before in
+    omega (arith, l .loop-test .taken, l .before .loop .inv .3, start (l .before .before) .pre .1 .space)
 
--- src/rolling.rt:120:9
 low-requires : tie.Need-low-requires Inv-loop μ-loop
-low-requires c κs = search needs
+low-requires c κs = omega (arith, c .before .before .before .refill .ensures .1)
 
--- src/rolling.rt:122:9
 add-n : tie.Need-add-n Inv-loop μ-loop
-add-n c = search needs
+add-n c =
+    let l = c .before .before .before .before .before in
+    omega (arith, l .loop-test .taken, start (l .before .before) .pre .1 .near)
 
--- src/rolling.rt:115:5
 loop-less : tie.Need-loop-less Inv-loop μ-loop
-loop-less c = search needs
+loop-less c = omega (arith, c .before .before .before .before .before .loop-test .taken)
 
--- src/rolling.rt:115:5
 loop-again : tie.Need-loop-again Inv-loop μ-loop
-loop-again c = search needs
+loop-again c =
+    let r = c .before .before .before .before in
+    let more = r .before .loop-test .taken in
+    let l = r .before .before .loop in
+    let p = r .before .before .before in
+    let a = start p .args in (
+      omega (arith, more),
+      omega (arith, r .refill .ensures .1),
+      rw (← one-on (a .start) (l .n) (width p)) (take-rest (byte p) (small p) (width p) _ (r .refill .result) (full r) (r .refill .ensures .0) _ refl refl (c .low .ensures)),
+      simp length-set (l .inv .3),
+      λ A w t. one-written A (a .bytes .now) (a .offset) (a .from) (a .start) (l .n) (a .out .now) (l .out) (l .inv .4 A w t) _ (omega (arith, more, start p .pre .1 .space)) (base (c .before .before) A w t .1),
+    )
 
--- src/rolling.rt:99:1
 same-length : tie.Need-same-length Inv-loop μ-loop
-same-length c = search needs
+same-length c = c .before .loop .inv .3
 
--- src/rolling.rt:99:1
 returns : tie.Need-returns Inv-loop μ-loop
-returns c = search needs
+returns c =
+    let l = c .before .loop in
+    let p = c .before .before in
+    let all : l .n ≡ start p .args .count = omega (arith, l .inv .0, c .loop-test .left) in
+    rw (← all) (l .inv .4 (coding (start p .args .kind)) (sym (p .before .bits-per-symbol .ensures)) (start p .pre .0 .entries))
 
 pub roll-spec : {M : Type 1} → statement M
 roll-spec =
