@@ -7,7 +7,9 @@ use native.Mathlib.Numerals.{add-one}
 use native.Mathlib.Omega.{arith}
 use lib.ListN.{length, take, drop, set, length-append, length-drop, take-append-drop}
 use lib.Seq.{length-take-le, take-at, drop-at, drop-drop, set-split}
+use Rattle.bits.specs.Tables.{tabulate}
 use Rattle.bits.specs.Memory.{front, putAt}
+use Rattle.bits.proofs.Tabulated.{length-tabulate, tabulate-add}
 
 pub put-none : (k : ℕ) (memory : List ℕ) → putAt k [] memory ≡ memory
 unfolding putAt
@@ -51,3 +53,33 @@ module _ (k : ℕ) (xs memory : List ℕ) (room : k + length xs ≤ length memor
       ∙ append-assoc (take k memory) xs (ys ++ drop (n + length ys) memory)
       ∙ ap (λ (l : List ℕ). take k memory ++ l) (sym (append-assoc xs ys (drop (n + length ys) memory)))
       ∙ ap (λ (m : ℕ). take k memory ++ ((xs ++ ys) ++ drop m memory)) whole
+
+-- ---- a table written from place `from` on, entry by entry or part by part
+
+module _ (f : ℕ → ℕ) (from : ℕ) (memory : List ℕ) where
+  -- its first n entries stand in memory
+  abbrev pub Filled : ℕ → List ℕ → Type 0
+  Filled n out = out ≡ putAt from (tabulate n f) memory
+
+  pub none-filled : Filled 0 memory
+  unfolding tabulate
+  none-filled = sym (put-none from memory)
+
+  module _ (n : ℕ) (out : List ℕ) (done : Filled n out) where
+    pub filled-length : from + n ≤ length memory → length out ≡ length memory
+    filled-length room = ap length done ∙ put-length from (tabulate n f) memory (omega (arith, length-tabulate n f))
+
+    -- m entries more
+    pub more-filled : (m : ℕ) (xs : List ℕ) → from + n + m ≤ length memory → xs ≡ tabulate m (λ i. f (n + i)) → Filled (n + m) (putAt (from + n) xs out)
+    more-filled m xs room e =
+        ap (λ (k : ℕ). putAt (from + k) xs out) (sym (length-tabulate n f))
+        ∙ ap (putAt (from + length (tabulate n f)) xs) done
+        ∙ put-put from (tabulate n f) memory (omega (arith, length-tabulate n f)) xs
+        ∙ ap (λ (l : List ℕ). putAt from l memory) (ap (λ (l : List ℕ). tabulate n f ++ l) e ∙ sym (tabulate-add n m f))
+
+    -- one entry more
+    pub one-filled : (v : ℕ) → from + n < length memory → v ≡ f n → Filled (n + 1) (set out (from + n) v)
+    unfolding tabulate
+    one-filled v room e =
+        put-one (from + n) v out (omega (arith, filled-length (omega arith)))
+        ∙ more-filled 1 (v ∷ []) (omega arith) (ap (λ (x : ℕ). x ∷ []) (e ∙ ap f (sym (add-zero n))))

@@ -2,8 +2,9 @@
 use mathlib.Core.Path.{_≡_}
 use mathlib.Core.List.{List, map}
 use Prim.Native.Nat.{ℕ, _+_, _*_, _^_, _≤_, _<_}
-use Rattle.bits.specs.Tables.{tabulate}
+use Rattle.bits.specs.Tables.{tabulate, at}
 use Rattle.bits.specs.Streams.{bitAt, word, fields}
+use Rattle.bits.specs.Packing.{fileByte}
 use Rattle.alphabet.specs.Symbols.{Coding}
 use Rattle.windows.specs.declared.rolling.Held.{Held}
 
@@ -25,3 +26,11 @@ pub record Holds (byte : ℕ → ℕ) (place : ℕ) (held : Held) : Type 0 where
 -- the symbols of the c codes, b bits wide, that a number writes
 unfoldable pub symbolsOf : Coding → ℕ → ℕ → List ℕ
 symbolsOf A c v = map (A .symbol) (fields (A .width) c v)
+
+-- n entries of a list from entry `first` on
+unfoldable pub stretch : List ℕ → ℕ → ℕ → List ℕ
+stretch xs first n = tabulate n (λ i. at xs (first + i))
+
+-- n bytes of a file from byte `start` on
+unfoldable pub fileBytes : List ℕ → ℕ → ℕ → ℕ → List ℕ
+fileBytes lent offset start n = tabulate n (λ i. fileByte lent offset (start + i))
