@@ -1,72 +1,78 @@
+use mathlib.Core.Path.{_≡_, ap, _∙_}
+use Prim.Native.Nat.{ℕ, _+_, _-_, _≤_, min}
+use native.Mathlib.Omega.{arith}
+use lib.ListN.{length}
 use borrow.Author.Needs.{needs}
+use Rattle.windows.proofs.Blocks.{three-parts}
 use Rattle.windows.proofs.plain.copy_file.Statement.{statement}
 use Rattle.windows.proofs.plain.copy_file.Tie as tie
-use Rattle.windows.proofs.plain.copy_file.Reads as reads
-use Rattle.windows.proofs.plain.copy_file.Lts as lts
-use Rattle.windows.proofs.plain.beyond.Reads as beyond-reads
-use Rattle.windows.proofs.plain.copy.Reads as copy-reads
-use Rattle.windows.proofs.plain.least.Reads as least-reads
-use Rattle.windows.proofs.plain.zeros.Reads as zeros-reads
 
--- src/plain.rt:55:24
+-- the last part ends where the window does
+end-fits : (x y count before m room room₀ : ℕ) → before ≡ min x count → m ≡ min y (count - before) → 0 + count ≤ room₀ → room ≡ room₀ → before + m + (count - before - m) ≤ room
+end-fits x y count before m room room₀ e f h q = omega arith
+
 beyond-requires : tie.Need-beyond-requires
 beyond-requires c κs = search needs
 
--- src/plain.rt:55:9
 least-requires : tie.Need-least-requires
 least-requires c κs = search needs
 
--- src/plain.rt:56:5
 zeros-requires : tie.Need-zeros-requires
 zeros-requires c κs = search needs
 
--- src/plain.rt:57:24
 add-beyond : tie.Need-add-beyond
 add-beyond c = search needs
 
--- src/plain.rt:57:9
 beyond-requires-2 : tie.Need-beyond-requires-2
 beyond-requires-2 c κs = search needs
 
--- src/plain.rt:58:22
 beyond-requires-3 : tie.Need-beyond-requires-3
 beyond-requires-3 c κs = search needs
 
--- src/plain.rt:58:50
 sub-least : tie.Need-sub-least
 sub-least c = search needs
 
--- src/plain.rt:58:9
 least-requires-2 : tie.Need-least-requires-2
 least-requires-2 c κs = search needs
 
--- src/plain.rt:59:5
 copy-requires : tie.Need-copy-requires
 copy-requires c κs = search needs
 
--- src/plain.rt:60:11
 sub-zeros : tie.Need-sub-zeros
 sub-zeros c = search needs
 
--- src/plain.rt:60:11
 sub-zeros-2 : tie.Need-sub-zeros-2
 sub-zeros-2 c = search needs
 
--- src/plain.rt:60:39
 add-zeros : tie.Need-add-zeros
 add-zeros c = search needs
 
--- src/plain.rt:60:5
 zeros-requires-2 : tie.Need-zeros-requires-2
-zeros-requires-2 c κs = search needs
+zeros-requires-2 c κs =
+    let p = c .before .before .before in
+    let l = p .before .before in
+    let z = l .before .before .before .before .before in
+    let s = z .before .before in
+    end-fits _ _ _ _ _ _ _ (s .least .ensures) (l .least2 .ensures) (s .before .before .before .before .pre .space) (p .copy .kept .1 .1 .1 .0 ∙ z .zeros .kept .1 .0)
 
--- src/plain.rt:51:1
 same-length : tie.Need-same-length
 same-length c = search needs
 
--- src/plain.rt:51:1
 returns : tie.Need-returns
-returns c = search needs
+returns c =
+    let y = c .before .before in
+    let p = y .before .before .before .before in
+    let l = p .before .before in
+    let z = l .before .before .before .before .before in
+    let s = z .before .before in
+    let a = s .before .before .before .before .args in
+    three-parts (a .bytes .now) (a .offset) (a .start) (a .count) (a .out .now) (omega (arith, s .before .before .before .before .pre .space)) (s .least .result) (l .before .before .beyond2 .result) (l .least2 .result) _ _ _
+    (s .least .ensures ∙ ap (λ (x : ℕ). min x (a .count)) (s .before .beyond .ensures))
+    (l .before .before .beyond2 .ensures)
+    (l .least2 .ensures ∙ ap (λ (x : ℕ). min x (a .count - s .least .result)) (l .before .beyond3 .ensures))
+    (z .zeros .ensures)
+    (p .copy .ensures)
+    (y .zeros2 .ensures)
 
 pub copy-file-spec : {M : Type 1} → statement M
 copy-file-spec =
