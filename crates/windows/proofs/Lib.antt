@@ -1,3 +1,3 @@
 pub mod Windows
 pub mod Turns
-pub mod Blocks
+pub mod WholeBytes

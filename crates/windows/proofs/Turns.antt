@@ -2,7 +2,7 @@
 use mathlib.Core.Path.{_≡_, refl, sym, ap, ap₂, _∙_}
 use mathlib.Core.List.{List, [], _∷_, _++_, map}
 use Prim.Native.Nat.{ℕ, suc, _+_, _-_, _*_, _/_, _%_, _^_, _≤_, _<_}
-use native.Mathlib.Nat.{add-zero, add-assoc, add-mul, one-mul, mul-comm, mul-le-mul, mod-eq-of-lt, lt-of-lt-of-le}
+use native.Mathlib.Nat.{add-zero, zero-add, add-assoc, add-mul, one-mul, mul-comm, mul-le-mul, mod-eq-of-lt, lt-of-lt-of-le}
 use native.Mathlib.Decide.{decLt}
 use native.Mathlib.Omega.{arith}
 use lib.ListN.{length, getD, set}
@@ -137,3 +137,41 @@ module _ (byte : ℕ → ℕ) (small : (j : ℕ) → byte j < 256) where
               ∙ word-low (bitAt 8 byte) (bit-lt 8 byte) place b (h .have - b)
               ∙ ap (word (bitAt 8 byte) (place + b)) (sym f);
         }
+
+-- ---- a window in three runs: bases up to a byte's first bit, bases of whole bytes, the rest
+
+module _ (A : Coding) (lent : List ℕ) (offset start count : ℕ) (memory : List ℕ) (room : count ≤ length memory) where
+  -- `middle` bases from base `at-byte` on, which is the next base, unless there is none
+  middle-run : (head middle at-byte : ℕ) → (0 < middle → at-byte ≡ start + head) → window A lent offset at-byte middle ≡ window A lent offset (start + head) middle
+  unfolding tabulate
+  middle-run head middle at-byte e = go (decLt 0 middle)
+    where
+      go : Dec (0 < middle) → window A lent offset at-byte middle ≡ window A lent offset (start + head) middle
+      go (yes h) = ap (λ (i : ℕ). window A lent offset i middle) (e h)
+      go (no h) =
+          let none : middle ≡ 0 = omega arith in
+          rw none (window-bases A lent offset at-byte 0 ∙ sym (window-bases A lent offset (start + head) 0))
+
+  pub three-runs : (head middle at-byte : ℕ) (out₁ out₂ out₃ : List ℕ)
+      → head + middle ≤ count → (0 < middle → at-byte ≡ start + head)
+      → out₁ ≡ putAt 0 (window A lent offset start head) memory
+      → out₂ ≡ putAt head (window A lent offset at-byte middle) out₁
+      → out₃ ≡ putAt (head + middle) (window A lent offset (start + (head + middle)) (count - (head + middle))) out₂
+      → out₃ ≡ putAt 0 (window A lent offset start count) memory
+  three-runs head middle at-byte out₁ out₂ out₃ h e e₁ e₂ e₃ =
+      let done : ℕ = head + middle in
+      let all : done + (count - done) ≡ count = omega arith in
+      let d₂ : Written A lent offset 0 start done memory out₂ =
+      e₂
+      ∙ ap (λ (k : ℕ). putAt k (window A lent offset at-byte middle) out₁) (sym (zero-add head))
+      ∙ more-written A lent offset 0 start head memory out₁ e₁ middle (window A lent offset at-byte middle) (omega arith) (middle-run head middle at-byte e) in
+      e₃
+      ∙ ap (λ (k : ℕ). putAt k (window A lent offset (start + done) (count - done)) out₂) (sym (zero-add done))
+      ∙ more-written A lent offset 0 start done memory out₂ d₂ (count - done) (window A lent offset (start + done) (count - done)) (omega arith) refl
+      ∙ ap (λ (n : ℕ). putAt 0 (window A lent offset start n) memory) all
+
+-- ---- the decoding table
+
+-- an entry
+pub entry : (A : Coding) (table : List ℕ) (c : ℕ) → Decodes A table → c < 32 → at table c ≡ A .symbol c
+entry A table c d h = ap (λ (t : List ℕ). at t c) (d .entries) ∙ getD-tabulate 32 (A .symbol) c 0 h

@@ -3,7 +3,7 @@ use Prim.Native.Nat.{ℕ, _+_, _-_, _≤_, min}
 use native.Mathlib.Omega.{arith}
 use lib.ListN.{length}
 use borrow.Author.Needs.{needs}
-use Rattle.windows.proofs.Blocks.{three-parts}
+use Rattle.windows.proofs.WholeBytes.{three-parts}
 use Rattle.windows.proofs.plain.copy_file.Statement.{statement}
 use Rattle.windows.proofs.plain.copy_file.Tie as tie
 

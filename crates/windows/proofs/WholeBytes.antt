@@ -1,23 +1,27 @@
 -- Windows that are read by whole bytes: blocks of codes, and plain bytes.
 use mathlib.Core.Path.{_≡_, refl, sym, ap, ap₂, _∙_}
-use mathlib.Core.List.{List, [], _∷_, _++_, map}
+use mathlib.Core.List.{List, [], _∷_, _++_, map, append-assoc}
 use Prim.Native.Nat.{ℕ, suc, _+_, _-_, _*_, _/_, _%_, _^_, _≤_, _<_, min}
 use native.Mathlib.Nat.{zero-add, le-of-eq}
 use native.Mathlib.Omega.{arith}
-use lib.ListN.{length, replicate}
+use native.Mathlib.Numerals.{towards-suc}
+use lib.ListN.{length, replicate, set, take, drop}
+use lib.Seq.{sets-eq}
 use Rattle.bits.specs.Tables.{tabulate, at, Bytes}
-use Rattle.bits.specs.Streams.{bitAt, word, cut}
+use Rattle.bits.specs.Streams.{bitAt, word, cut, fields}
 use Rattle.bits.specs.Packing.{fileByte, codesFrom}
 use Rattle.bits.specs.Memory.{putAt}
 use Rattle.bits.proofs.Tabulated.{tabulate-ext, replicate-tabulate}
 use Rattle.bits.proofs.Put.{Filled, none-filled, more-filled}
 use Rattle.bits.proofs.Blocks.{block-codes, word-byte, word-bytes}
 use Rattle.bits.proofs.Files.{file-before, file-lent, file-past, file-small, word-lent}
-use Rattle.alphabet.specs.Symbols.{Coding}
+use Rattle.alphabet.specs.Symbols.{Coding, listed, coding}
+use Rattle.alphabet.specs.declared.kind.AlphabetType.the-variants.{Dna2bit, Dna3bit}
 use Rattle.alphabet.proofs.Laws.{Plain}
 use Rattle.windows.specs.Window.{window}
-use Rattle.windows.specs.Workers.{symbolsOf, stretch, fileBytes}
+use Rattle.windows.specs.Workers.{Decodes, symbolsOf, stretch, fileBytes}
 use Rattle.windows.proofs.Windows.{baseAt, window-bases}
+use Rattle.windows.proofs.Turns.{entry}
 
 -- c bases, of which the first begins with byte j, and which fill n bytes
 pub window-block : (A : Coding) (lent : List ℕ) (offset c n i j : ℕ) → i * A .width ≡ j * 8 → c * A .width ≡ n * 8
@@ -120,3 +124,65 @@ module _ (lent : List ℕ) (offset start count : ℕ) (memory : List ℕ) (room 
       let out : (before < count) × (m ≡ length lent - first) = outside (length lent - first) count before m i em l in
       file-past lent offset (start + (before + m + i)) (past offset start before first m (length lent) i (reach offset start count before eb (out .0)) ef (out .1))))
       ∙ ap (λ (n : ℕ). putAt 0 (tabulate n f) memory) (all .1 .1)
+
+-- ---- eight bases of three bits in three bytes
+
+pub three-wide : coding Dna3bit .width ≡ 3
+unfolding coding listed
+three-wide = refl
+
+-- the eight symbols of a number, one by one
+pub symbols-of-eight : (A : Coding) (v : ℕ) → A .width ≡ 3
+    → symbolsOf A 8 v ≡ A .symbol (v / 2 ^ 21 % 8) ∷ A .symbol (v / 2 ^ 18 % 8) ∷ A .symbol (v / 2 ^ 15 % 8) ∷ A .symbol (v / 2 ^ 12 % 8)
+    ∷ A .symbol (v / 2 ^ 9 % 8) ∷ A .symbol (v / 2 ^ 6 % 8) ∷ A .symbol (v / 2 ^ 3 % 8) ∷ A .symbol (v / 2 ^ 0 % 8) ∷ []
+unfolding symbolsOf fields tabulate
+symbols-of-eight A v e = ap (λ (b : ℕ). map (A .symbol) (fields b 8 v)) e
+
+-- eight stores in a row
+pub eight-stores : (out : List ℕ) (k a b c d e f g h : ℕ) → k + 8 ≤ length out
+    → set (set (set (set (set (set (set (set out k a) (k + 1) b) (k + 2) c) (k + 3) d) (k + 4) e) (k + 5) f) (k + 6) g) (k + 7) h
+    ≡ putAt k (a ∷ b ∷ c ∷ d ∷ e ∷ f ∷ g ∷ h ∷ []) out
+unfolding putAt
+eight-stores out k a b c d e f g h room =
+    let xs : List ℕ = a ∷ b ∷ c ∷ d ∷ e ∷ f ∷ g ∷ h ∷ [] in
+    simp towards-suc (simp towards-suc at (sets-eq xs out k room ∙ append-assoc (take k out) xs (drop (k + 8) out)))
+
+-- the table's entries at the eight fields of a number
+pub eight-entries : (table : List ℕ) (v a b c d e f g h : ℕ) → Decodes (coding Dna3bit) table
+    → (a ≡ v / 2 ^ 21 % 8) × (a < 8) → (b ≡ v / 2 ^ 18 % 8) × (b < 8) → (c ≡ v / 2 ^ 15 % 8) × (c < 8) → (d ≡ v / 2 ^ 12 % 8) × (d < 8)
+    → (e ≡ v / 2 ^ 9 % 8) × (e < 8) → (f ≡ v / 2 ^ 6 % 8) × (f < 8) → (g ≡ v / 2 ^ 3 % 8) × (g < 8) → (h ≡ v / 2 ^ 0 % 8) × (h < 8)
+    → at table a ∷ at table b ∷ at table c ∷ at table d ∷ at table e ∷ at table f ∷ at table g ∷ at table h ∷ [] ≡ symbolsOf (coding Dna3bit) 8 v
+eight-entries table v a b c d e f g h decodes pa pb pc pd pe pf pg ph =
+    let A : Coding = coding Dna3bit in
+    let read : (x y : ℕ) → (x ≡ y) × (x < 8) → at table x ≡ A .symbol y = λ x y p. entry A table x decodes (omega (arith, p .1)) ∙ ap (A .symbol) (p .0) in
+    rw (read a _ pa, read b _ pb, read c _ pc, read d _ pd, read e _ pe, read f _ pf, read g _ pg, read h _ ph) (sym (symbols-of-eight A v three-wide))
+
+-- a block of three lent bytes
+pub block-of-three : (lent : List ℕ) (offset block n v : ℕ) → Bytes lent → offset ≤ (block + n) * 3
+    → v ≡ (at lent ((block + n) * 3 - offset) * 256 + at lent ((block + n) * 3 - offset + 1)) * 256 + at lent ((block + n) * 3 - offset + 2)
+    → symbolsOf (coding Dna3bit) 8 v ≡ window (coding Dna3bit) lent offset (block * 8 + n * 8) 8
+block-of-three lent offset block n v bytes h e =
+    let A : Coding = coding Dna3bit in
+    let first : (block * 8 + n * 8) * A .width ≡ (block + n) * 3 * 8 = rw three-wide (omega arith) in
+    let whole : 8 * A .width ≡ 3 * 8 = rw three-wide in
+    ap (symbolsOf A 8) (e ∙ sym (word-of-three lent offset ((block + n) * 3) bytes h))
+    ∙ sym (window-block A lent offset 8 3 (block * 8 + n * 8) ((block + n) * 3) first whole)
+
+-- ---- four bases of two bits in a byte
+
+pub two-wide : coding Dna2bit .width ≡ 2
+unfolding coding listed
+two-wide = refl
+
+pub symbols-of-four : (A : Coding) (v : ℕ) → A .width ≡ 2
+    → symbolsOf A 4 v ≡ A .symbol (v / 64 % 4) ∷ A .symbol (v / 16 % 4) ∷ A .symbol (v / 4 % 4) ∷ A .symbol (v / 1 % 4) ∷ []
+unfolding symbolsOf fields tabulate
+symbols-of-four A v e = ap (λ (b : ℕ). map (A .symbol) (fields b 4 v)) e
+
+-- a row at its byte
+pub row-of-byte : (lent : List ℕ) (offset first n : ℕ) → Bytes lent → symbolsOf (coding Dna2bit) 4 (fileByte lent offset (first + n)) ≡ window (coding Dna2bit) lent offset (first * 4 + n * 4) 4
+row-of-byte lent offset first n bytes =
+    let A : Coding = coding Dna2bit in
+    let place : (first * 4 + n * 4) * A .width ≡ (first + n) * 8 = rw two-wide (omega arith) in
+    let whole : 4 * A .width ≡ 8 = rw two-wide in
+    sym (window-of-byte A lent offset 4 (first * 4 + n * 4) (first + n) bytes place whole)

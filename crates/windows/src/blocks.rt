@@ -1,0 +1,72 @@
+// Dna3bit: eight bases from three bytes.
+use crate::rolling::low;
+use crate::rolling::push;
+ghost use mathlib.Core.Path.{_≡_};
+ghost use Prim.Native.Nat.{_+_, _*_, _/_, _%_, _^_, _<_, _≤_};
+ghost use lib.ListN.{length};
+ghost use Rattle.bits.specs.Tables.{at};
+ghost use Rattle.bits.specs.Memory.{putAt};
+ghost use Rattle.alphabet.specs.Symbols.{coding};
+ghost use Rattle.alphabet.specs.declared.kind.AlphabetType.the-variants.{Dna3bit};
+ghost use Rattle.windows.specs.Window.{window};
+ghost use Rattle.windows.specs.Workers.{Fits, Decodes, symbolsOf};
+
+// Three bits of w above its n low ones.
+fn field(w: u64, n: usize) -> usize
+    requires { ⌜ n < 64 ⌝ }
+    ensures { λ r. ⌜ (r ≡ w / 2 ^ n % 8) × (r < 8) ⌝ }
+{
+    low(w >> n, 3) as usize
+}
+
+// The number that three bytes write.
+fn three(bytes: &[u8], i: usize) -> u64
+    requires { ⌜ i + 3 ≤ length (now bytes) ⌝ }
+    ensures { λ r. ⌜ r ≡ (at (now (bytes .entry)) i * 256 + at (now (bytes .entry)) (i + 1)) * 256 + at (now (bytes .entry)) (i + 2) ⌝ }
+{
+    push(push(push(0, bytes[i]), bytes[i + 1]), bytes[i + 2])
+}
+
+// The eight symbols of a number, written from place k on.
+fn eight(table: &[u8; 32], w: u64, out: &mut [u8], k: usize)
+    requires { ⌜ Decodes (coding Dna3bit) (now table) × (k + 8 ≤ length (now out)) ⌝ }
+    ensures { λ _. ⌜ now (out .exit) ≡ putAt k (symbolsOf (coding Dna3bit) 8 w) (now (out .entry)) ⌝ }
+{
+    out[k] = table[field(w, 21)];
+    out[k + 1] = table[field(w, 18)];
+    out[k + 2] = table[field(w, 15)];
+    out[k + 3] = table[field(w, 12)];
+    out[k + 4] = table[field(w, 9)];
+    out[k + 5] = table[field(w, 6)];
+    out[k + 6] = table[field(w, 3)];
+    out[k + 7] = table[field(w, 0)];
+}
+
+// Blocks of eight bases from base 8 * block on, at most `most`, while all three bytes of a block are lent. The answer is how many were written.
+fn blocks(
+    table: &[u8; 32],
+    bytes: &[u8],
+    offset: usize,
+    block: usize,
+    most: usize,
+    out: &mut [u8],
+    from: usize,
+) -> usize
+    requires { ⌜ Decodes (coding Dna3bit) (now table) × Fits (block * 8) (most * 8) from (length (now out)) ⌝ }
+    ensures { λ r. ⌜ (r ≤ most) × (now (out .exit) ≡ putAt from (window (coding Dna3bit) (now (bytes .entry)) offset (block * 8) (r * 8)) (now (out .entry))) ⌝ }
+{
+    let mut n: usize = 0;
+    while n < most {
+        let j = (block + n) * 3;
+        if j < offset {
+            return n;
+        }
+        let i = j - offset;
+        if bytes.len() < i + 3 {
+            return n;
+        }
+        eight(table, three(bytes, i), out, from + n * 8);
+        n += 1;
+    }
+    n
+}
