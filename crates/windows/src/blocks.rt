@@ -1,6 +1,10 @@
 // Dna3bit: eight bases from three bytes.
+use crate::plain::least;
 use crate::rolling::low;
 use crate::rolling::push;
+use crate::rolling::roll;
+use alphabet::AlphabetType;
+use alphabet::decoding_array;
 ghost use mathlib.Core.Path.{_≡_};
 ghost use Prim.Native.Nat.{_+_, _*_, _/_, _%_, _^_, _<_, _≤_};
 ghost use lib.ListN.{length};
@@ -69,4 +73,18 @@ fn blocks(
         n += 1;
     }
     n
+}
+
+// `count` bases from base `start` on: base by base up to a block, by blocks, and base by base to the end and where bytes of a block are not lent.
+pub fn three_bits(bytes: &[u8], offset: usize, start: usize, count: usize, out: &mut [u8])
+    requires { ⌜ Fits start count 0 (length (now out)) ⌝ }
+    ensures { λ _. ⌜ now (out .exit) ≡ putAt 0 (window (coding Dna3bit) (now (bytes .entry)) offset start count) (now (out .entry)) ⌝ }
+{
+    let table = decoding_array(AlphabetType::Dna3bit);
+    let head = least((8 - start % 8) % 8, count);
+    roll(AlphabetType::Dna3bit, &table, bytes, offset, start, head, out, 0);
+    let block = (start + head) / 8;
+    let most = (count - head) / 8;
+    let done = head + blocks(&table, bytes, offset, block, most, out, head) * 8;
+    roll(AlphabetType::Dna3bit, &table, bytes, offset, start + done, count - done, out, done);
 }
