@@ -186,3 +186,26 @@ row-of-byte lent offset first n bytes =
     let place : (first * 4 + n * 4) * A .width ≡ (first + n) * 8 = rw two-wide (omega arith) in
     let whole : 4 * A .width ≡ 8 = rw two-wide in
     sym (window-of-byte A lent offset 4 (first * 4 + n * 4) (first + n) bytes place whole)
+
+-- ---- where blocks of g bases begin and end: a head up to a multiple of g, and r whole blocks behind it
+
+pub head-fits : (x count head : ℕ) → head ≡ min x count → head ≤ count
+head-fits x count head e = omega arith
+
+pub blocks-of-eight : (count head r : ℕ) → head ≤ count → r ≤ (count - head) / 8 → head + r * 8 ≤ count
+blocks-of-eight count head r e h = omega arith
+
+pub eight-aligned : (start count head r : ℕ) → head ≡ min ((8 - start % 8) % 8) count → r ≤ (count - head) / 8 → 0 < r * 8 → (start + head) / 8 * 8 ≡ start + head
+eight-aligned start count head r e h l =
+    let inner : head < count = omega arith in
+    let whole : head ≡ (8 - start % 8) % 8 = omega arith in
+    omega arith
+
+pub blocks-of-four : (count head r : ℕ) → head ≤ count → r ≤ (count - head) / 4 → head + r * 4 ≤ count
+blocks-of-four count head r e h = omega arith
+
+pub four-aligned : (start count head r : ℕ) → head ≡ min ((4 - start % 4) % 4) count → r ≤ (count - head) / 4 → 0 < r * 4 → (start + head) / 4 * 4 ≡ start + head
+four-aligned start count head r e h l =
+    let inner : head < count = omega arith in
+    let whole : head ≡ (4 - start % 4) % 4 = omega arith in
+    omega arith
