@@ -2,16 +2,16 @@
 use mathlib.Core.Path.{_≡_, refl, sym, ap, ap₂, _∙_}
 use mathlib.Core.List.{List, [], _∷_, _++_, map, append-assoc}
 use Prim.Native.Nat.{ℕ, suc, _+_, _-_, _*_, _/_, _%_, _^_, _≤_, _<_, min}
-use native.Mathlib.Nat.{zero-add, le-of-eq}
+use native.Mathlib.Nat.{zero-add, le-of-eq, div-one}
 use native.Mathlib.Omega.{arith}
 use native.Mathlib.Numerals.{towards-suc}
-use lib.ListN.{length, replicate, set, take, drop}
+use lib.ListN.{length, replicate, getD, set, take, drop}
 use lib.Seq.{sets-eq}
 use Rattle.bits.specs.Tables.{tabulate, at, Bytes}
 use Rattle.bits.specs.Streams.{bitAt, word, cut, fields}
 use Rattle.bits.specs.Packing.{fileByte, codesFrom}
 use Rattle.bits.specs.Memory.{putAt}
-use Rattle.bits.proofs.Tabulated.{tabulate-ext, replicate-tabulate}
+use Rattle.bits.proofs.Tabulated.{tabulate-ext, getD-tabulate, is-tabulate, replicate-tabulate, front-more}
 use Rattle.bits.proofs.Put.{Filled, none-filled, more-filled}
 use Rattle.bits.proofs.Blocks.{block-codes, word-byte, word-bytes}
 use Rattle.bits.proofs.Files.{file-before, file-lent, file-past, file-small, word-lent}
@@ -19,7 +19,7 @@ use Rattle.alphabet.specs.Symbols.{Coding, listed, coding}
 use Rattle.alphabet.specs.declared.kind.AlphabetType.the-variants.{Dna2bit, Dna3bit}
 use Rattle.alphabet.proofs.Laws.{Plain}
 use Rattle.windows.specs.Window.{window}
-use Rattle.windows.specs.Workers.{Decodes, symbolsOf, stretch, fileBytes}
+use Rattle.windows.specs.Workers.{Decodes, Rows, symbolsOf, stretch, fileBytes}
 use Rattle.windows.proofs.Windows.{baseAt, window-bases}
 use Rattle.windows.proofs.Turns.{entry}
 
@@ -178,6 +178,40 @@ pub symbols-of-four : (A : Coding) (v : ℕ) → A .width ≡ 2
     → symbolsOf A 4 v ≡ A .symbol (v / 64 % 4) ∷ A .symbol (v / 16 % 4) ∷ A .symbol (v / 4 % 4) ∷ A .symbol (v / 1 % 4) ∷ []
 unfolding symbolsOf fields tabulate
 symbols-of-four A v e = ap (λ (b : ℕ). map (A .symbol) (fields b 4 v)) e
+
+-- the table's entries at the four fields of a byte
+pub four-entries : (table : List ℕ) (v : ℕ) → table ≡ tabulate 32 (coding Dna2bit .symbol)
+    → at table (v / 64 % 4) ∷ at table (v / 16 % 4) ∷ at table (v / 4 % 4) ∷ at table (v % 4) ∷ [] ≡ symbolsOf (coding Dna2bit) 4 v
+four-entries table v e =
+    let A : Coding = coding Dna2bit in
+    let read : (x : ℕ) → at table (x % 4) ≡ A .symbol (x % 4) = λ x. ap (λ (t : List ℕ). at t (x % 4)) e ∙ getD-tabulate 32 (A .symbol) (x % 4) 0 (omega arith) in
+    let last : at table (v % 4) ≡ A .symbol (v / 1 % 4) = read v ∙ ap (λ (x : ℕ). A .symbol (x % 4)) (sym (div-one v)) in
+    rw (read (v / 64), read (v / 16), read (v / 4), last) (sym (symbols-of-four A v two-wide))
+
+-- rows filled from the front: one more
+pub row-more : (rows : List (List ℕ)) (row : List ℕ) (v : ℕ) → v < length rows → ((k : ℕ) → k < v → getD rows k [] ≡ symbolsOf (coding Dna2bit) 4 k) → row ≡ symbolsOf (coding Dna2bit) 4 v
+    → (k : ℕ) → k < v + 1 → getD (set rows v row) k [] ≡ symbolsOf (coding Dna2bit) 4 k
+row-more rows row v h done e = rw e (front-more (symbolsOf (coding Dna2bit) 4) [] rows v h done)
+
+pub rows-done : (rows : List (List ℕ)) → length rows ≡ 256 → ((k : ℕ) → k < 256 → getD rows k [] ≡ symbolsOf (coding Dna2bit) 4 k) → Rows rows
+unfolding Rows
+rows-done rows e h = is-tabulate 256 (symbolsOf (coding Dna2bit) 4) [] rows e h
+
+-- the four symbols of a row
+pub four-of-row : (rows : List (List ℕ)) (v byte : ℕ) → Rows rows → v ≡ byte → v < 256
+    → at (getD rows v []) 0 ∷ at (getD rows v []) 1 ∷ at (getD rows v []) 2 ∷ at (getD rows v []) 3 ∷ [] ≡ symbolsOf (coding Dna2bit) 4 byte
+unfolding Rows
+four-of-row rows v byte e q h =
+    let A : Coding = coding Dna2bit in
+    let row : getD rows v [] ≡ symbolsOf A 4 byte = ap (λ (t : List (List ℕ)). getD t v []) e ∙ getD-tabulate 256 (symbolsOf A 4) v [] h ∙ ap (symbolsOf A 4) q in
+    ap (λ (l : List ℕ). at l 0 ∷ at l 1 ∷ at l 2 ∷ at l 3 ∷ []) (row ∙ symbols-of-four A byte two-wide) ∙ sym (symbols-of-four A byte two-wide)
+
+-- four stores in a row
+pub four-stores : (out : List ℕ) (k a b c d : ℕ) → k + 4 ≤ length out → set (set (set (set out k a) (k + 1) b) (k + 2) c) (k + 3) d ≡ putAt k (a ∷ b ∷ c ∷ d ∷ []) out
+unfolding putAt
+four-stores out k a b c d room =
+    let xs : List ℕ = a ∷ b ∷ c ∷ d ∷ [] in
+    simp towards-suc (simp towards-suc at (sets-eq xs out k room ∙ append-assoc (take k out) xs (drop (k + 4) out)))
 
 -- a row at its byte
 pub row-of-byte : (lent : List ℕ) (offset first n : ℕ) → Bytes lent → symbolsOf (coding Dna2bit) 4 (fileByte lent offset (first + n)) ≡ window (coding Dna2bit) lent offset (first * 4 + n * 4) 4

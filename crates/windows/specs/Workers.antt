@@ -5,7 +5,8 @@ use Prim.Native.Nat.{ℕ, _+_, _*_, _^_, _≤_, _<_}
 use Rattle.bits.specs.Tables.{tabulate, at}
 use Rattle.bits.specs.Streams.{bitAt, word, fields}
 use Rattle.bits.specs.Packing.{fileByte}
-use Rattle.alphabet.specs.Symbols.{Coding}
+use Rattle.alphabet.specs.Symbols.{Coding, coding}
+use Rattle.alphabet.specs.declared.kind.AlphabetType.the-variants.{Dna2bit}
 use Rattle.windows.specs.declared.rolling.Held.{Held}
 
 -- a window that passed the questions: its end is near, and memory has space for its bases from place `from` on
@@ -26,6 +27,10 @@ pub record Holds (byte : ℕ → ℕ) (place : ℕ) (held : Held) : Type 0 where
 -- the symbols of the c codes, b bits wide, that a number writes
 unfoldable pub symbolsOf : Coding → ℕ → ℕ → List ℕ
 symbolsOf A c v = map (A .symbol) (fields (A .width) c v)
+
+-- the 256 rows of Dna2bit: a row for each packed byte, its four symbols
+unfoldable pub Rows : List (List ℕ) → Type 0
+Rows rows = rows ≡ tabulate 256 (symbolsOf (coding Dna2bit) 4)
 
 -- n entries of a list from entry `first` on
 unfoldable pub stretch : List ℕ → ℕ → ℕ → List ℕ

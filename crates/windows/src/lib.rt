@@ -3,5 +3,6 @@ mod blocks;
 mod plain;
 mod read;
 mod rolling;
+mod rows;
 
 pub use read::Read;

@@ -1,0 +1,62 @@
+// Dna2bit: four bases from a byte, by rows.
+use crate::plain::least;
+use crate::rolling::fetch;
+use crate::rolling::roll;
+use alphabet::AlphabetType;
+use alphabet::decoding_array;
+use bits::place;
+ghost use mathlib.Core.Path.{_≡_};
+ghost use Prim.Native.Nat.{_+_, _*_, _≤_};
+ghost use lib.ListN.{length};
+ghost use Rattle.bits.specs.Tables.{tabulate};
+ghost use Rattle.bits.specs.Memory.{putAt};
+ghost use Rattle.alphabet.specs.Symbols.{coding};
+ghost use Rattle.alphabet.specs.declared.kind.AlphabetType.the-variants.{Dna2bit};
+ghost use Rattle.windows.specs.Window.{window};
+ghost use Rattle.windows.specs.Workers.{Fits, symbolsOf, Rows};
+
+// A row for each packed byte: its four symbols, as the symbol list has them.
+fn row_table() -> [[u8; 4]; 256]
+    ensures { λ r. ⌜ Rows r ⌝ }
+{
+    let table = decoding_array(AlphabetType::Dna2bit);
+    let mut rows = [[0u8; 4]; 256];
+    for v in 0..256usize {
+        let row = [table[v / 64 % 4], table[v / 16 % 4], table[v / 4 % 4], table[v % 4]];
+        rows[v] = row;
+    }
+    rows
+}
+
+// A byte's row, written from place k on.
+fn put_row(rows: &[[u8; 4]; 256], byte: u8, out: &mut [u8], k: usize)
+    requires { ⌜ Rows (now rows) × (k + 4 ≤ length (now out)) ⌝ }
+    ensures { λ _. ⌜ now (out .exit) ≡ putAt k (symbolsOf (coding Dna2bit) 4 byte) (now (out .entry)) ⌝ }
+{
+    let v = place(byte);
+    let row = rows[v];
+    out[k] = row[0];
+    out[k + 1] = row[1];
+    out[k + 2] = row[2];
+    out[k + 3] = row[3];
+}
+
+// `count` rows, the first that of byte `first` of the file, written from place `from` on.
+fn put_rows(
+    rows: &[[u8; 4]; 256],
+    bytes: &[u8],
+    offset: usize,
+    first: usize,
+    count: usize,
+    out: &mut [u8],
+    from: usize,
+)
+    requires { ⌜ Rows (now rows) × Fits (first * 4) (count * 4) from (length (now out)) ⌝ }
+    ensures { λ _. ⌜ now (out .exit) ≡ putAt from (window (coding Dna2bit) (now (bytes .entry)) offset (first * 4) (count * 4)) (now (out .entry)) ⌝ }
+{
+    let mut n: usize = 0;
+    while n < count {
+        put_row(rows, fetch(bytes, offset, first + n), out, from + n * 4);
+        n += 1;
+    }
+}
