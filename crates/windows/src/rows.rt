@@ -15,6 +15,9 @@ ghost use Rattle.alphabet.specs.declared.kind.AlphabetType.the-variants.{Dna2bi
 ghost use Rattle.windows.specs.Window.{window};
 ghost use Rattle.windows.specs.Workers.{Fits, symbolsOf, Rows};
 
+// How long a window is for which filling the rows takes less time than they save.
+const ROWS_FROM: usize = 256;
+
 // A row for each packed byte: its four symbols, as the symbol list has them.
 fn row_table() -> [[u8; 4]; 256]
     ensures { λ r. ⌜ Rows r ⌝ }
@@ -59,4 +62,24 @@ fn put_rows(
         put_row(rows, fetch(bytes, offset, first + n), out, from + n * 4);
         n += 1;
     }
+}
+
+// `count` bases from base `start` on: base by base up to a byte, by rows, and base by base to the end.
+pub fn two_bits(bytes: &[u8], offset: usize, start: usize, count: usize, out: &mut [u8])
+    requires { ⌜ Fits start count 0 (length (now out)) ⌝ }
+    ensures { λ _. ⌜ now (out .exit) ≡ putAt 0 (window (coding Dna2bit) (now (bytes .entry)) offset start count) (now (out .entry)) ⌝ }
+{
+    let table = decoding_array(AlphabetType::Dna2bit);
+    if count < ROWS_FROM {
+        roll(AlphabetType::Dna2bit, &table, bytes, offset, start, count, out, 0);
+        return;
+    }
+    let head = least((4 - start % 4) % 4, count);
+    roll(AlphabetType::Dna2bit, &table, bytes, offset, start, head, out, 0);
+    let rows = row_table();
+    let first = (start + head) / 4;
+    let whole = (count - head) / 4;
+    put_rows(&rows, bytes, offset, first, whole, out, head);
+    let done = head + whole * 4;
+    roll(AlphabetType::Dna2bit, &table, bytes, offset, start + done, count - done, out, done);
 }
