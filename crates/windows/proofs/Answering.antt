@@ -5,16 +5,19 @@ use mathlib.Core.List.{List, []}
 use Prim.Native.Nat.{ℕ, _+_, _-_, _*_, _/_, _^_, _≤_, _<_}
 use native.Mathlib.Nat.{mul-le-mul-right}
 use native.Mathlib.Omega.{arith}
-use borrow.Author.Tests.{ltb-true, leb-true, lt-ltb, le-ltb, le-leb, lt-leb}
+use borrow.Author.Tests.{ltb-true, leb-true, leb-false, lt-ltb, le-ltb, le-leb, lt-leb}
 use lib.Dec.{leb, ltb}
-use lib.ListN.{length}
+use lib.ListN.{length, getD, List·getD-eq-default}
 use Rattle.bits.specs.Tables.{tabulate}
 use Rattle.bits.specs.Packing.{firstByte, endByte}
 use Rattle.bits.specs.Memory.{front, putAt}
 use Rattle.bits.proofs.Put.{put-front}
 use Rattle.alphabet.specs.Questions.{ask_else_then_, by, inBounds}
 use Rattle.alphabet.specs.Symbols.{Coding}
-use Rattle.alphabet.specs.Names.{known, numbered}
+use Rattle.alphabet.specs.Names.{known, kinds, kindOf, numbered, namedAt}
+use Rattle.alphabet.specs.declared.kind.AlphabetType.{AlphabetType}
+use Rattle.alphabet.specs.declared.kind.AlphabetType.the-variants.{Unknown}
+use Rattle.alphabet.specs.declared.kind.Named.{Named}
 use Rattle.alphabet.specs.declared.refusal.Refusal.{Refusal}
 use Rattle.windows.specs.declared.read.Read.{Read}
 use Rattle.windows.specs.Window.{window, covers, readAt, coveredAt, readWrites}
@@ -114,3 +117,90 @@ covered-late A lent offset start end l h = rw (le-leb offset (firstByte (A .widt
 -- a range's first byte stands no later than its end
 pub range-order : (b start end : ℕ) → start < end → firstByte b start ≤ endByte b end
 range-order b start end h = omega (arith, mul-le-mul-right {m = start} {n = end} b (omega arith))
+
+-- ---- the kind of a number
+
+pub kind-named : (r : Named) (alphabet : ℕ) (kind : AlphabetType) → r ≡ namedAt alphabet → r ≡ Named.Kind kind → kind ≡ kindOf alphabet
+unfolding namedAt
+kind-named r alphabet kind e q = go (known alphabet) (sym q ∙ e)
+  where
+    go : (t : Bool) → Named.Kind kind ≡ (ask t else Named.Refused (by 8 []) then Named.Kind (kindOf alphabet)) → kind ≡ kindOf alphabet
+    go true p = cc
+    go false p = let z : _≡_ {A = ℕ} 0 1 = cc in absurd (omega arith)
+
+pub kind-unnamed : (r : Named) (alphabet : ℕ) (q : Refusal) → r ≡ namedAt alphabet → r ≡ Named.Refused q → Unknown ≡ kindOf alphabet
+unfolding namedAt kindOf
+kind-unnamed r alphabet q e p = go (known alphabet) refl (sym p ∙ e)
+  where
+    go : (t : Bool) → known alphabet ≡ t → Named.Refused q ≡ (ask t else Named.Refused (by 8 []) then Named.Kind (kindOf alphabet)) → Unknown ≡ getD kinds alphabet Unknown
+    go true k w = let z : _≡_ {A = ℕ} 0 1 = cc in absurd (omega arith)
+    go false k w =
+        let past : 6 ≤ alphabet = omega (arith, leb-false alphabet 5 k) in
+        sym (List·getD-eq-default kinds Unknown past)
+
+-- ---- each answer of a zero-filling read
+
+module _ (alphabet offset start end room : ℕ) where
+  pub read-empty : end ≤ start → Read.Bases 0 ≡ readAt alphabet offset start end room
+  unfolding readAt
+  read-empty h = rw (le-ltb start end h)
+
+  module _ (some : start < end) where
+    pub read-unknown : 5 < alphabet → Read.Refused (by 8 []) ≡ readAt alphabet offset start end room
+    unfolding readAt
+    read-unknown h = rw (lt-ltb start end some, lt-leb alphabet 5 h)
+
+    module _ (named : alphabet ≤ 5) where
+      pub read-far-end : 2 ^ 60 < end → Read.Refused (by 2 []) ≡ readAt alphabet offset start end room
+      unfolding readAt
+      read-far-end h = rw (lt-ltb start end some, le-leb alphabet 5 named, lt-leb end (2 ^ 60) h)
+
+      module _ (near : end ≤ 2 ^ 60) where
+        pub read-far-offset : 2 ^ 60 < offset → Read.Refused (by 2 []) ≡ readAt alphabet offset start end room
+        unfolding readAt
+        read-far-offset h = rw (lt-ltb start end some, le-leb alphabet 5 named, le-leb end (2 ^ 60) near, lt-leb offset (2 ^ 60) h)
+
+        module _ (by-near : offset ≤ 2 ^ 60) where
+          pub read-short : room < end - start → Read.Refused (by 4 []) ≡ readAt alphabet offset start end room
+          unfolding readAt
+          read-short h = rw (lt-ltb start end some, le-leb alphabet 5 named, le-leb end (2 ^ 60) near, le-leb offset (2 ^ 60) by-near, lt-leb (end - start) room h)
+
+          pub read-bases : end - start ≤ room → Read.Bases (end - start) ≡ readAt alphabet offset start end room
+          unfolding readAt
+          read-bases h = rw (lt-ltb start end some, le-leb alphabet 5 named, le-leb end (2 ^ 60) near, le-leb offset (2 ^ 60) by-near, le-leb (end - start) room h)
+
+-- ---- each answer of a covered read
+
+module _ (alphabet : ℕ) (lent : List ℕ) (offset start end room : ℕ) where
+  pub covered-empty : end ≤ start → Read.Bases 0 ≡ coveredAt alphabet lent offset start end room
+  unfolding coveredAt
+  covered-empty h = rw (le-ltb start end h)
+
+  module _ (some : start < end) where
+    pub covered-unknown : 5 < alphabet → Read.Refused (by 8 []) ≡ coveredAt alphabet lent offset start end room
+    unfolding coveredAt
+    covered-unknown h = rw (lt-ltb start end some, lt-leb alphabet 5 h)
+
+    module _ (named : alphabet ≤ 5) where
+      pub covered-far-end : 2 ^ 60 < end → Read.Refused (by 2 []) ≡ coveredAt alphabet lent offset start end room
+      unfolding coveredAt
+      covered-far-end h = rw (lt-ltb start end some, le-leb alphabet 5 named, lt-leb end (2 ^ 60) h)
+
+      module _ (near : end ≤ 2 ^ 60) where
+        pub covered-far-offset : 2 ^ 60 < offset → Read.Refused (by 2 []) ≡ coveredAt alphabet lent offset start end room
+        unfolding coveredAt
+        covered-far-offset h = rw (lt-ltb start end some, le-leb alphabet 5 named, le-leb end (2 ^ 60) near, lt-leb offset (2 ^ 60) h)
+
+        module _ (by-near : offset ≤ 2 ^ 60) where
+          pub covered-not : covers (numbered alphabet) lent offset start end ≡ false → Read.Refused (by 3 []) ≡ coveredAt alphabet lent offset start end room
+          unfolding coveredAt
+          covered-not h = rw (lt-ltb start end some, le-leb alphabet 5 named, le-leb end (2 ^ 60) near, le-leb offset (2 ^ 60) by-near, h)
+
+          module _ (all : covers (numbered alphabet) lent offset start end ≡ true) where
+            pub covered-short : room < end - start → Read.Refused (by 4 []) ≡ coveredAt alphabet lent offset start end room
+            unfolding coveredAt
+            covered-short h = rw (lt-ltb start end some, le-leb alphabet 5 named, le-leb end (2 ^ 60) near, le-leb offset (2 ^ 60) by-near, all, lt-leb (end - start) room h)
+
+            pub covered-bases : end - start ≤ room → Read.Bases (end - start) ≡ coveredAt alphabet lent offset start end room
+            unfolding coveredAt
+            covered-bases h = rw (lt-ltb start end some, le-leb alphabet 5 named, le-leb end (2 ^ 60) near, le-leb offset (2 ^ 60) by-near, all, le-leb (end - start) room h)

@@ -68,8 +68,8 @@ decoded A lent offset b i code table width five entries e =
     (less, ap (λ (t : List ℕ). at t code) entries ∙ getD-tabulate 32 (A .symbol) code 0 less ∙ ap (A .symbol) (e ∙ ap (λ (w : ℕ). word s (i * w) w) (sym width)))
 
 -- a bit's place fits 64 bits
-pub bit-fits : {i b : ℕ} → i ≤ 2 ^ 60 → b ≤ 5 → i * b ≤ 2 ^ 63
-bit-fits l h = mul-le-mul {n₂ = 2 ^ 60} {m₂ = 8} l (omega arith)
+pub bit-fits : {i b : ℕ} → i ≤ 2 ^ 60 → b ≤ 8 → i * b ≤ 2 ^ 63
+bit-fits l h = mul-le-mul {n₂ = 2 ^ 60} {m₂ = 8} l h
 
 -- one code on
 pub one-on : (s n b : ℕ) → (s + n) * b + b ≡ (s + (n + 1)) * b

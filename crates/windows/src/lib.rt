@@ -1,4 +1,5 @@
 // Windows: the symbols of a stretch of a packed file of which some bytes are lent.
+mod asked;
 mod blocks;
 mod plain;
 mod read;

@@ -65,7 +65,7 @@ bits-per-symbol-requires c κs = search needs
 mul-prime : tie.Need-mul-prime Inv-loop μ-loop
 mul-prime c =
     let s = c .before .before .before in
-    let w : c .bits-per-symbol .result ≤ 5 = omega (arith, s .pre .0 .five, c .bits-per-symbol .ensures) in
+    let w : c .bits-per-symbol .result ≤ 8 = omega (arith, s .pre .0 .five, c .bits-per-symbol .ensures) in
     omega (arith, bit-fits {i = s .args .start} (omega (arith, s .pre .1 .near)) w)
 
 prime-requires : tie.Need-prime-requires Inv-loop μ-loop
@@ -82,7 +82,7 @@ refill-requires : tie.Need-refill-requires Inv-loop μ-loop
 refill-requires c κs =
     let l = c .before .loop in
     let p = c .before .before in
-    let near : (start p .args .start + l .n) * width p ≤ 2 ^ 63 = bit-fits (omega (arith, start p .pre .1 .near)) (five p) in (
+    let near : (start p .args .start + l .n) * width p ≤ 2 ^ 63 = bit-fits (omega (arith, start p .pre .1 .near)) (omega (arith, five p)) in (
       l .inv .1,
       lt-of-lt-of-le (acc-lt (byte p) (small p) _ (l .held) (l .inv .2)) (pow-mono {j = 8} (omega (arith, l .inv .1))),
       omega (arith, near, l .inv .2 .up-to, l .inv .1),
