@@ -1,6 +1,7 @@
 -- Windows that are read by whole bytes: blocks of codes, and plain bytes.
 use mathlib.Core.Path.{_≡_, refl, sym, ap, ap₂, _∙_}
 use mathlib.Core.List.{List, [], _∷_, _++_, map, append-assoc}
+use mathlib.Core.Logic.{⊎-elim}
 use Prim.Native.Nat.{ℕ, suc, _+_, _-_, _*_, _/_, _%_, _^_, _≤_, _<_, min}
 use native.Mathlib.Nat.{zero-add, le-of-eq, div-one}
 use native.Mathlib.Omega.{arith}
@@ -16,8 +17,9 @@ use Rattle.bits.proofs.Put.{Filled, none-filled, more-filled}
 use Rattle.bits.proofs.Blocks.{block-codes, word-byte, word-bytes}
 use Rattle.bits.proofs.Files.{file-before, file-lent, file-past, file-small, word-lent}
 use Rattle.alphabet.specs.Symbols.{Coding, listed, coding}
+use Rattle.alphabet.specs.declared.kind.AlphabetType.{AlphabetType}
 use Rattle.alphabet.specs.declared.kind.AlphabetType.the-variants.{Dna2bit, Dna3bit}
-use Rattle.alphabet.proofs.Laws.{Plain}
+use Rattle.alphabet.proofs.Laws.{Packed, Plain, shape}
 use Rattle.windows.specs.Window.{window}
 use Rattle.windows.specs.Workers.{Decodes, Rows, symbolsOf, stretch, fileBytes}
 use Rattle.windows.proofs.Windows.{baseAt, window-bases}
@@ -243,3 +245,11 @@ four-aligned start count head r e h l =
     let inner : head < count = omega arith in
     let whole : head ≡ (4 - start % 4) % 4 = omega arith in
     omega arith
+
+-- ---- the two shapes of alphabets, by their width
+
+pub plain-of : (k : AlphabetType) → coding k .width ≡ 8 → Plain (coding k)
+plain-of k e = ⊎-elim (λ p. absurd (omega (arith, p .five))) (λ p. p) (shape k)
+
+pub five-of : (k : AlphabetType) → (coding k .width ≡ 8 → ⊥) → coding k .width ≤ 5
+five-of k e = ⊎-elim (λ p. p .five) (λ p. absurd (e (p .eight))) (shape k)
