@@ -13,7 +13,7 @@ use Rattle.bits.specs.Packing.{firstByte, endByte}
 use Rattle.bits.specs.Memory.{front, putAt}
 use Rattle.bits.proofs.Put.{put-front}
 use Rattle.alphabet.specs.Questions.{ask_else_then_, by, inBounds}
-use Rattle.alphabet.specs.Symbols.{Coding}
+use Rattle.alphabet.specs.Symbols.{Coding, coding}
 use Rattle.alphabet.specs.Names.{known, kinds, kindOf, numbered, namedAt}
 use Rattle.alphabet.specs.declared.kind.AlphabetType.{AlphabetType}
 use Rattle.alphabet.specs.declared.kind.AlphabetType.the-variants.{Unknown}
@@ -30,16 +30,6 @@ abbrev counted : Read → ℕ
 counted (Read.Bases n) = n
 counted (Read.Refused q) = 0
 
--- the window that such an answer is about
-pub record Accepted (start end room n : ℕ) : Type 0 where
-  pub some : start < end
-  pub count : n ≡ end - start
-  pub near : end ≤ 2 ^ 60
-  pub space : n ≤ room
-
-pub fits : {start end room n : ℕ} → Accepted start end room n → Fits start n 0 room
-fits a = record { near = omega (arith, a .some, a .count, a .near); space = omega (arith, a .space) }
-
 -- an answer with bases is no answer on "no"
 passed : (t : Bool) (no-answer rest : Read) (n : ℕ) → counted no-answer ≡ 0 → 0 < n → counted (ask t else no-answer then rest) ≡ n → (t ≡ true) × (counted rest ≡ n)
 passed true no-answer rest n z h e = (refl, e)
@@ -49,34 +39,31 @@ both : (a b : Bool) → a && b ≡ true → (a ≡ true) × (b ≡ true)
 both true b e = (refl, e)
 both false b e = let q : _≡_ {A = ℕ} 0 1 = cc in absurd (omega arith)
 
-pub accepted : (alphabet offset start end room n : ℕ) → Read.Bases n ≡ readAt alphabet offset start end room → 0 < n → Accepted start end room n
+-- the last question
+last : (start end room n : ℕ) → ltb start end ≡ true → inBounds end ≡ true → leb (end - start) room ≡ true → end - start ≡ n → Fits start n 0 room
+last start end room n some near space count =
+    record { near = omega (arith, ltb-true start end some, leb-true end (2 ^ 60) near); space = omega (arith, leb-true (end - start) room space) }
+
+pub accepted : (alphabet offset start end room : ℕ) (r : Read) (n : ℕ) → r ≡ readAt alphabet offset start end room → r ≡ Read.Bases n → (n ≡ 0 → ⊥) → Fits start n 0 room
 unfolding readAt
-accepted alphabet offset start end room n e h =
-    let p₁ = passed (ltb start end) _ _ n refl h (sym (ap counted e)) in
+accepted alphabet offset start end room r n e told z =
+    let h : 0 < n = omega arith in
+    let p₁ = passed (ltb start end) _ _ n refl h (sym (ap counted e) ∙ ap counted told) in
     let p₂ = passed (known alphabet) _ _ n refl h (p₁ .1) in
     let p₃ = passed (inBounds end && inBounds offset) _ _ n refl h (p₂ .1) in
     let p₄ = passed (leb (end - start) room) _ _ n refl h (p₃ .1) in
-    record {
-      some = ltb-true start end (p₁ .0);
-      count = sym (p₄ .1);
-      near = leb-true end (2 ^ 60) (both (inBounds end) (inBounds offset) (p₃ .0) .0);
-      space = omega (arith, leb-true (end - start) room (p₄ .0), p₄ .1);
-    }
+    last start end room n (p₁ .0) (both (inBounds end) (inBounds offset) (p₃ .0) .0) (p₄ .0) (p₄ .1)
 
-pub covered-accepted : (alphabet : ℕ) (lent : List ℕ) (offset start end room n : ℕ) → Read.Bases n ≡ coveredAt alphabet lent offset start end room → 0 < n → Accepted start end room n
+pub covered-accepted : (alphabet : ℕ) (lent : List ℕ) (offset start end room : ℕ) (r : Read) (n : ℕ) → r ≡ coveredAt alphabet lent offset start end room → r ≡ Read.Bases n → (n ≡ 0 → ⊥) → Fits start n 0 room
 unfolding coveredAt
-covered-accepted alphabet lent offset start end room n e h =
-    let p₁ = passed (ltb start end) _ _ n refl h (sym (ap counted e)) in
+covered-accepted alphabet lent offset start end room r n e told z =
+    let h : 0 < n = omega arith in
+    let p₁ = passed (ltb start end) _ _ n refl h (sym (ap counted e) ∙ ap counted told) in
     let p₂ = passed (known alphabet) _ _ n refl h (p₁ .1) in
     let p₃ = passed (inBounds end && inBounds offset) _ _ n refl h (p₂ .1) in
     let p₄ = passed (covers (numbered alphabet) lent offset start end) _ _ n refl h (p₃ .1) in
     let p₅ = passed (leb (end - start) room) _ _ n refl h (p₄ .1) in
-    record {
-      some = ltb-true start end (p₁ .0);
-      count = sym (p₅ .1);
-      near = leb-true end (2 ^ 60) (both (inBounds end) (inBounds offset) (p₃ .0) .0);
-      space = omega (arith, leb-true (end - start) room (p₅ .0), p₅ .1);
-    }
+    last start end room n (p₁ .0) (both (inBounds end) (inBounds offset) (p₃ .0) .0) (p₅ .0) (p₅ .1)
 
 -- ---- memory afterwards
 
@@ -98,6 +85,20 @@ module _ (alphabet : ℕ) (lent : List ℕ) (offset start : ℕ) (memory : List 
   pub refused-after : (q : Refusal) → Read.Refused q ≡ answer → After memory
   unfolding readWrites
   refused-after q e = ap (λ (r : Read). front (readWrites alphabet lent offset start r) memory) e
+
+  -- the whole of a call, by what its questions answered
+  module _ (r : Read) (e : r ≡ answer) where
+    pub empty-call : (n : ℕ) → r ≡ Read.Bases n → n ≡ 0 → (Read.Bases 0 ≡ answer) × After memory
+    empty-call n told z =
+        let a : Read.Bases 0 ≡ answer = ap Read.Bases (sym z) ∙ sym told ∙ e in
+        (a, none-after a)
+
+    pub read-call : (kind : AlphabetType) (n : ℕ) (out : List ℕ) → r ≡ Read.Bases n → kind ≡ kindOf alphabet → out ≡ putAt 0 (window (coding kind) lent offset start n) memory → (Read.Bases n ≡ answer) × After out
+    read-call kind n out told k w =
+        (sym told ∙ e, bases-after n out (sym told ∙ e) (w ∙ ap (λ (x : AlphabetType). putAt 0 (window (coding x) lent offset start n) memory) k))
+
+    pub refused-call : (q : Refusal) → r ≡ Read.Refused q → (Read.Refused q ≡ answer) × After memory
+    refused-call q told = (sym told ∙ e, refused-after q (sym told ∙ e))
 
 -- ---- question 6
 

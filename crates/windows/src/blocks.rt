@@ -82,9 +82,27 @@ pub fn three_bits(bytes: &[u8], offset: usize, start: usize, count: usize, out: 
 {
     let table = decoding_array(AlphabetType::Dna3bit);
     let head = least((8 - start % 8) % 8, count);
-    roll(AlphabetType::Dna3bit, &table, bytes, offset, start, head, out, 0);
+    roll(
+        AlphabetType::Dna3bit,
+        &table,
+        bytes,
+        offset,
+        start,
+        head,
+        out,
+        0,
+    );
     let block = (start + head) / 8;
     let most = (count - head) / 8;
     let done = head + blocks(&table, bytes, offset, block, most, out, head) * 8;
-    roll(AlphabetType::Dna3bit, &table, bytes, offset, start + done, count - done, out, done);
+    roll(
+        AlphabetType::Dna3bit,
+        &table,
+        bytes,
+        offset,
+        start + done,
+        count - done,
+        out,
+        done,
+    );
 }

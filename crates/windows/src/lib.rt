@@ -7,3 +7,10 @@ mod rolling;
 mod rows;
 
 pub use read::Read;
+pub use read::decode_2bit;
+pub use read::decode_3bit;
+pub use read::decode_covered;
+pub use read::decode_rolling;
+pub use read::decode_string_from_bytes;
+pub use read::decode_substring_from_bytes;
+pub use read::decode_substring_from_bytes_at_offset;

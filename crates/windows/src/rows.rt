@@ -25,7 +25,12 @@ fn row_table() -> [[u8; 4]; 256]
     let table = decoding_array(AlphabetType::Dna2bit);
     let mut rows = [[0u8; 4]; 256];
     for v in 0..256usize {
-        let row = [table[v / 64 % 4], table[v / 16 % 4], table[v / 4 % 4], table[v % 4]];
+        let row = [
+            table[v / 64 % 4],
+            table[v / 16 % 4],
+            table[v / 4 % 4],
+            table[v % 4],
+        ];
         rows[v] = row;
     }
     rows
@@ -71,15 +76,42 @@ pub fn two_bits(bytes: &[u8], offset: usize, start: usize, count: usize, out: &m
 {
     let table = decoding_array(AlphabetType::Dna2bit);
     if count < ROWS_FROM {
-        roll(AlphabetType::Dna2bit, &table, bytes, offset, start, count, out, 0);
+        roll(
+            AlphabetType::Dna2bit,
+            &table,
+            bytes,
+            offset,
+            start,
+            count,
+            out,
+            0,
+        );
         return;
     }
     let head = least((4 - start % 4) % 4, count);
-    roll(AlphabetType::Dna2bit, &table, bytes, offset, start, head, out, 0);
+    roll(
+        AlphabetType::Dna2bit,
+        &table,
+        bytes,
+        offset,
+        start,
+        head,
+        out,
+        0,
+    );
     let rows = row_table();
     let first = (start + head) / 4;
     let whole = (count - head) / 4;
     put_rows(&rows, bytes, offset, first, whole, out, head);
     let done = head + whole * 4;
-    roll(AlphabetType::Dna2bit, &table, bytes, offset, start + done, count - done, out, done);
+    roll(
+        AlphabetType::Dna2bit,
+        &table,
+        bytes,
+        offset,
+        start + done,
+        count - done,
+        out,
+        done,
+    );
 }
