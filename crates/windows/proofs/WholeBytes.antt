@@ -23,7 +23,7 @@ use Rattle.alphabet.proofs.Laws.{Packed, Plain, shape}
 use Rattle.windows.specs.Window.{window}
 use Rattle.windows.specs.Workers.{Decodes, Rows, symbolsOf, stretch, fileBytes}
 use Rattle.windows.proofs.Windows.{baseAt, window-bases}
-use Rattle.windows.proofs.Turns.{entry}
+use Rattle.windows.proofs.Turns.{more-written, entry}
 
 -- c bases, of which the first begins with byte j, and which fill n bytes
 pub window-block : (A : Coding) (lent : List ℕ) (offset c n i j : ℕ) → i * A .width ≡ j * 8 → c * A .width ≡ n * 8
@@ -222,6 +222,25 @@ row-of-byte lent offset first n bytes =
     let place : (first * 4 + n * 4) * A .width ≡ (first + n) * 8 = rw two-wide (omega arith) in
     let whole : 4 * A .width ≡ 8 = rw two-wide in
     sym (window-of-byte A lent offset 4 (first * 4 + n * 4) (first + n) bytes place whole)
+
+-- the row of a lent byte
+pub row-of-lent : (lent : List ℕ) (offset first n : ℕ) → Bytes lent → offset ≤ first → symbolsOf (coding Dna2bit) 4 (at lent (first - offset + n)) ≡ window (coding Dna2bit) lent offset (first * 4 + n * 4) 4
+row-of-lent lent offset first n bytes h =
+    let place : first - offset + n ≡ first + n - offset = omega arith in
+    ap (symbolsOf (coding Dna2bit) 4) (ap (at lent) place ∙ sym (file-lent lent offset (first + n) (omega arith))) ∙ row-of-byte lent offset first n bytes
+
+-- n rows, and the rest behind them
+pub rows-joined : (lent : List ℕ) (offset from first count n : ℕ) (memory out₁ out₂ : List ℕ) → n ≤ count → from + count * 4 ≤ length memory
+    → out₁ ≡ putAt from (window (coding Dna2bit) lent offset (first * 4) (n * 4)) memory
+    → out₂ ≡ putAt (from + n * 4) (window (coding Dna2bit) lent offset ((first + n) * 4) ((count - n) * 4)) out₁
+    → out₂ ≡ putAt from (window (coding Dna2bit) lent offset (first * 4) (count * 4)) memory
+rows-joined lent offset from first count n memory out₁ out₂ h room e₁ e₂ =
+    let A : Coding = coding Dna2bit in
+    let place : (first + n) * 4 ≡ first * 4 + n * 4 = omega arith in
+    let whole : n * 4 + (count - n) * 4 ≡ count * 4 = omega arith in
+    e₂
+    ∙ more-written A lent offset from (first * 4) (n * 4) memory out₁ e₁ ((count - n) * 4) (window A lent offset ((first + n) * 4) ((count - n) * 4)) (omega arith) (ap (λ (i : ℕ). window A lent offset i ((count - n) * 4)) place)
+    ∙ ap (λ (m : ℕ). putAt from (window A lent offset (first * 4) m) memory) whole
 
 -- ---- where blocks of g bases begin and end: a head up to a multiple of g, and r whole blocks behind it
 

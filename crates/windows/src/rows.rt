@@ -1,4 +1,5 @@
 // Dna2bit: four bases from a byte, by rows.
+use crate::plain::beyond;
 use crate::plain::least;
 use crate::rolling::fetch;
 use crate::rolling::roll;
@@ -49,8 +50,34 @@ fn put_row(rows: &[[u8; 4]; 256], byte: u8, out: &mut [u8], k: usize)
     out[k + 3] = row[3];
 }
 
-// `count` rows, the first that of byte `first` of the file, written from place `from` on.
-fn put_rows(
+// Rows of lent bytes, the first that of byte `first` of the file, at most `most`, written from place `from` on. The answer is how many were written.
+fn lent_rows(
+    rows: &[[u8; 4]; 256],
+    bytes: &[u8],
+    offset: usize,
+    first: usize,
+    most: usize,
+    out: &mut [u8],
+    from: usize,
+) -> usize
+    requires { ⌜ Rows (now rows) × Fits (first * 4) (most * 4) from (length (now out)) ⌝ }
+    ensures { λ r. ⌜ (r ≤ most) × (now (out .exit) ≡ putAt from (window (coding Dna2bit) (now (bytes .entry)) offset (first * 4) (r * 4)) (now (out .entry))) ⌝ }
+{
+    if first < offset {
+        return 0;
+    }
+    let i = first - offset;
+    let count = least(beyond(bytes.len(), i), most);
+    let mut n: usize = 0;
+    while n < count {
+        put_row(rows, bytes[i + n], out, from + n * 4);
+        n += 1;
+    }
+    count
+}
+
+// `count` rows, the first that of byte `first` of the file, written from place `from` on; a byte that is not lent reads as zero.
+fn fetched_rows(
     rows: &[[u8; 4]; 256],
     bytes: &[u8],
     offset: usize,
@@ -67,6 +94,23 @@ fn put_rows(
         put_row(rows, fetch(bytes, offset, first + n), out, from + n * 4);
         n += 1;
     }
+}
+
+// The same, without a test at each byte as long as the bytes are lent.
+fn put_rows(
+    rows: &[[u8; 4]; 256],
+    bytes: &[u8],
+    offset: usize,
+    first: usize,
+    count: usize,
+    out: &mut [u8],
+    from: usize,
+)
+    requires { ⌜ Rows (now rows) × Fits (first * 4) (count * 4) from (length (now out)) ⌝ }
+    ensures { λ _. ⌜ now (out .exit) ≡ putAt from (window (coding Dna2bit) (now (bytes .entry)) offset (first * 4) (count * 4)) (now (out .entry)) ⌝ }
+{
+    let n = lent_rows(rows, bytes, offset, first, count, out, from);
+    fetched_rows(rows, bytes, offset, first + n, count - n, out, from + n * 4);
 }
 
 // `count` bases from base `start` on: base by base up to a byte, by rows, and base by base to the end.
