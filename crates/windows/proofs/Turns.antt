@@ -2,11 +2,11 @@
 use mathlib.Core.Path.{_≡_, refl, sym, ap, ap₂, _∙_}
 use mathlib.Core.List.{List, [], _∷_, _++_, map}
 use Prim.Native.Nat.{ℕ, suc, _+_, _-_, _*_, _/_, _%_, _^_, _≤_, _<_}
-use native.Mathlib.Nat.{add-zero, zero-add, add-assoc, add-mul, one-mul, mul-comm, mul-le-mul, mod-eq-of-lt, lt-of-lt-of-le}
+use native.Mathlib.Nat.{add-zero, zero-add, add-assoc, add-mul, one-mul, mul-comm, mul-le-mul, mod-one, lt-of-lt-of-le}
 use native.Mathlib.Decide.{decLt}
 use native.Mathlib.Omega.{arith}
 use lib.ListN.{length, getD, set}
-use lib.Pow.{pow-mono}
+use lib.Pow.{pow-mono, high, low, field, mod-pow-add, mod-mod-pow}
 use Rattle.bits.specs.Tables.{tabulate, at}
 use Rattle.bits.specs.Streams.{bitAt, word, cut, fields}
 use Rattle.bits.specs.Packing.{fileByte, codesFrom}
@@ -81,16 +81,17 @@ module _ (byte : ℕ → ℕ) (small : (j : ℕ) → byte j < 256) where
   byte-word : (j : ℕ) → word (bitAt 8 byte) (8 * j) 8 ≡ byte j
   byte-word j = ap (λ (x : ℕ). word (bitAt 8 byte) x 8) (mul-comm 8 j) ∙ word-byte byte small j
 
-  pub acc-lt : (place : ℕ) (h : Held) → Holds byte place h → h .acc < 2 ^ h .have
-  acc-lt place h r = rw (r .value) (word-lt (bitAt 8 byte) (bit-lt 8 byte) place (h .have))
-
   -- at a byte's first bit nothing is held
-  pub prime-none : (bit : ℕ) (h : Held) → bit % 8 ≡ 0 → h .next ≡ bit / 8 → h .have ≡ 0 → h .acc ≡ 0 → Holds byte bit h
+  pub prime-none : (bit : ℕ) (h : Held) → bit % 8 ≡ 0 → h .next ≡ bit / 8 → h .have ≡ 0 → Holds byte bit h
   unfolding word
-  prime-none bit h e n f a = record { up-to = omega arith; value = a ∙ sym (ap (word (bitAt 8 byte) bit) f) }
+  prime-none bit h e n f =
+      record {
+        up-to = omega arith;
+        value = ap (λ (x : ℕ). h .acc % 2 ^ x) f ∙ mod-one (h .acc) ∙ sym (ap (word (bitAt 8 byte) bit) f);
+      }
 
   -- elsewhere, what is left of the byte
-  pub prime-some : (bit : ℕ) (h : Held) → h .next ≡ bit / 8 + 1 → h .have ≡ 8 - bit % 8 → h .acc ≡ byte (bit / 8) % 2 ^ (8 - bit % 8) → Holds byte bit h
+  pub prime-some : (bit : ℕ) (h : Held) → h .next ≡ bit / 8 + 1 → h .have ≡ 8 - bit % 8 → h .acc ≡ byte (bit / 8) → Holds byte bit h
   prime-some bit h n f a =
       let skip : ℕ = bit % 8 in
       let have : ℕ = 8 - skip in
@@ -99,40 +100,51 @@ module _ (byte : ℕ → ℕ) (small : (j : ℕ) → byte j < 256) where
       record {
         up-to = omega arith;
         value =
-            a
-            ∙ ap (λ (x : ℕ). x % 2 ^ have) (sym (byte-word (bit / 8)) ∙ ap (word (bitAt 8 byte) (8 * (bit / 8))) sum)
+            ap₂ (λ (x y : ℕ). x % 2 ^ y) (a ∙ sym (byte-word (bit / 8)) ∙ ap (word (bitAt 8 byte) (8 * (bit / 8))) sum) f
             ∙ word-low (bitAt 8 byte) (bit-lt 8 byte) (8 * (bit / 8)) skip have
             ∙ ap₂ (word (bitAt 8 byte)) start (sym f);
       }
 
   -- one byte more
-  pub refill-more : (place : ℕ) (h h′ : Held) → Holds byte place h → h′ .next ≡ h .next + 1 → h′ .have ≡ h .have + 8 → h′ .acc ≡ h .acc * 256 + byte (h .next) → Holds byte place h′
-  refill-more place h h′ r n f a =
+  pub refill-more : (place : ℕ) (h h′ : Held) → Holds byte place h → h .have < 8 → h′ .next ≡ h .next + 1 → h′ .have ≡ h .have + 8 → h′ .acc ≡ h .acc % 2 ^ 56 * 256 + byte (h .next) → Holds byte place h′
+  refill-more place h h′ r few n f a =
+      let v : ℕ = byte (h .next) in
+      let q : ℕ = h .acc % 2 ^ 56 in
+      let room : 56 - h .have + h .have ≡ 56 = omega arith in
+      let above : h′ .acc / 2 ^ 8 ≡ q = ap (λ (x : ℕ). x / 2 ^ 8) a ∙ high q 8 {lo = v} (small (h .next)) in
+      let below : h′ .acc % 2 ^ 8 ≡ v = ap (λ (x : ℕ). x % 2 ^ 8) a ∙ low q 8 {lo = v} (small (h .next)) in
+      let kept : q % 2 ^ h .have ≡ h .acc % 2 ^ h .have = ap (λ (x : ℕ). h .acc % 2 ^ x % 2 ^ h .have) (sym room) ∙ mod-mod-pow (h .acc) (56 - h .have) (h .have) in
       record {
         up-to = omega (arith, r .up-to);
         value =
-            a
-            ∙ ap₂ (λ (x y : ℕ). x * 2 ^ 8 + y) (r .value) (sym (byte-word (h .next)) ∙ ap (λ (x : ℕ). word (bitAt 8 byte) x 8) (r .up-to))
+            ap (λ (x : ℕ). h′ .acc % 2 ^ x) f
+            ∙ mod-pow-add (h′ .acc) (h .have) 8
+            ∙ ap₂ (λ (x y : ℕ). x % 2 ^ h .have * 2 ^ 8 + y) above below
+            ∙ ap₂ (λ (x y : ℕ). x * 2 ^ 8 + y) (kept ∙ r .value) (sym (byte-word (h .next)) ∙ ap (λ (x : ℕ). word (bitAt 8 byte) x 8) (r .up-to))
             ∙ sym (word-add (bitAt 8 byte) place (h .have) 8)
             ∙ ap (word (bitAt 8 byte) place) (sym f);
       }
 
   -- the next code, and the bits behind it
   module _ (b place : ℕ) (h : Held) (r : Holds byte place h) (full : b ≤ h .have) where
-    whole : h .acc ≡ word (bitAt 8 byte) place (b + (h .have - b))
+    whole : h .acc % 2 ^ (b + (h .have - b)) ≡ word (bitAt 8 byte) place (b + (h .have - b))
     whole =
         let sum : h .have ≡ b + (h .have - b) = omega arith in
-        r .value ∙ ap (word (bitAt 8 byte) place) sum
+        ap (λ (x : ℕ). h .acc % 2 ^ x) (sym sum) ∙ r .value ∙ ap (word (bitAt 8 byte) place) sum
 
-    pub take-code : h .acc / 2 ^ (h .have - b) ≡ word (bitAt 8 byte) place b
-    take-code = ap (λ (x : ℕ). x / 2 ^ (h .have - b)) whole ∙ word-high (bitAt 8 byte) (bit-lt 8 byte) place b (h .have - b)
+    pub take-code : h .acc / 2 ^ (h .have - b) % 2 ^ b ≡ word (bitAt 8 byte) place b
+    take-code =
+        sym (field (h .acc) b (h .have - b))
+        ∙ ap (λ (x : ℕ). x / 2 ^ (h .have - b)) whole
+        ∙ word-high (bitAt 8 byte) (bit-lt 8 byte) place b (h .have - b)
 
-    pub take-rest : (h′ : Held) → h′ .next ≡ h .next → h′ .have ≡ h .have - b → h′ .acc ≡ h .acc % 2 ^ (h .have - b) → Holds byte (place + b) h′
+    pub take-rest : (h′ : Held) → h′ .next ≡ h .next → h′ .have ≡ h .have - b → h′ .acc ≡ h .acc → Holds byte (place + b) h′
     take-rest h′ n f a =
         record {
           up-to = omega (arith, r .up-to);
           value =
-              a
+              ap₂ (λ (x y : ℕ). x % 2 ^ y) a f
+              ∙ sym (mod-mod-pow (h .acc) b (h .have - b))
               ∙ ap (λ (x : ℕ). x % 2 ^ (h .have - b)) whole
               ∙ word-low (bitAt 8 byte) (bit-lt 8 byte) place b (h .have - b)
               ∙ ap (word (bitAt 8 byte) (place + b)) (sym f);

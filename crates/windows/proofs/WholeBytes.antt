@@ -149,14 +149,17 @@ eight-stores out k a b c d e f g h room =
     let xs : List ℕ = a ∷ b ∷ c ∷ d ∷ e ∷ f ∷ g ∷ h ∷ [] in
     simp towards-suc (simp towards-suc at (sets-eq xs out k room ∙ append-assoc (take k out) xs (drop (k + 8) out)))
 
+small-field : (x y : ℕ) → x ≡ y % 8 → x < 32
+small-field x y p = omega arith
+
 -- the table's entries at the eight fields of a number
 pub eight-entries : (table : List ℕ) (v a b c d e f g h : ℕ) → Decodes (coding Dna3bit) table
-    → (a ≡ v / 2 ^ 21 % 8) × (a < 8) → (b ≡ v / 2 ^ 18 % 8) × (b < 8) → (c ≡ v / 2 ^ 15 % 8) × (c < 8) → (d ≡ v / 2 ^ 12 % 8) × (d < 8)
-    → (e ≡ v / 2 ^ 9 % 8) × (e < 8) → (f ≡ v / 2 ^ 6 % 8) × (f < 8) → (g ≡ v / 2 ^ 3 % 8) × (g < 8) → (h ≡ v / 2 ^ 0 % 8) × (h < 8)
+    → a ≡ v / 2 ^ 21 % 8 → b ≡ v / 2 ^ 18 % 8 → c ≡ v / 2 ^ 15 % 8 → d ≡ v / 2 ^ 12 % 8
+    → e ≡ v / 2 ^ 9 % 8 → f ≡ v / 2 ^ 6 % 8 → g ≡ v / 2 ^ 3 % 8 → h ≡ v / 2 ^ 0 % 8
     → at table a ∷ at table b ∷ at table c ∷ at table d ∷ at table e ∷ at table f ∷ at table g ∷ at table h ∷ [] ≡ symbolsOf (coding Dna3bit) 8 v
 eight-entries table v a b c d e f g h decodes pa pb pc pd pe pf pg ph =
     let A : Coding = coding Dna3bit in
-    let read : (x y : ℕ) → (x ≡ y) × (x < 8) → at table x ≡ A .symbol y = λ x y p. entry A table x decodes (omega (arith, p .1)) ∙ ap (A .symbol) (p .0) in
+    let read : (x y : ℕ) → x ≡ y % 8 → at table x ≡ A .symbol (y % 8) = λ x y p. entry A table x decodes (small-field x y p) ∙ ap (A .symbol) p in
     rw (read a _ pa, read b _ pb, read c _ pc, read d _ pd, read e _ pe, read f _ pf, read g _ pg, read h _ ph) (sym (symbols-of-eight A v three-wide))
 
 -- a block of three lent bytes

@@ -1,7 +1,7 @@
 -- What the private functions of this crate ask and say; no public contract cites it.
 use mathlib.Core.Path.{_≡_}
 use mathlib.Core.List.{List, map}
-use Prim.Native.Nat.{ℕ, _+_, _*_, _^_, _≤_, _<_}
+use Prim.Native.Nat.{ℕ, _+_, _*_, _%_, _^_, _≤_, _<_}
 use Rattle.bits.specs.Tables.{tabulate, at}
 use Rattle.bits.specs.Streams.{bitAt, word, fields}
 use Rattle.bits.specs.Packing.{fileByte}
@@ -19,10 +19,10 @@ pub record Decodes (A : Coding) (table : List ℕ) : Type 0 where
   pub five : A .width ≤ 5
   pub entries : table ≡ tabulate 32 (A .symbol)
 
--- the bits at hand are those from bit `place` on, up to byte `next`; `acc` is the number that they write
+-- the bits at hand are those from bit `place` on, up to byte `next`; the low bits of `acc` are the number that they write
 pub record Holds (byte : ℕ → ℕ) (place : ℕ) (held : Held) : Type 0 where
   pub up-to : 8 * held .next ≡ place + held .have
-  pub value : held .acc ≡ word (bitAt 8 byte) place (held .have)
+  pub value : held .acc % 2 ^ held .have ≡ word (bitAt 8 byte) place (held .have)
 
 -- the symbols of the c codes, b bits wide, that a number writes
 unfoldable pub symbolsOf : Coding → ℕ → ℕ → List ℕ

@@ -1,6 +1,6 @@
 // Dna3bit: eight bases from three bytes.
 use crate::plain::least;
-use crate::rolling::low;
+use crate::rolling::field;
 use crate::rolling::push;
 use crate::rolling::roll;
 use alphabet::AlphabetType;
@@ -15,14 +15,6 @@ ghost use Rattle.alphabet.specs.declared.kind.AlphabetType.the-variants.{Dna3bi
 ghost use Rattle.windows.specs.Window.{window};
 ghost use Rattle.windows.specs.Workers.{Fits, Decodes, symbolsOf};
 
-// Three bits of w above its n low ones.
-fn field(w: u64, n: usize) -> usize
-    requires { ⌜ n < 64 ⌝ }
-    ensures { λ r. ⌜ (r ≡ w / 2 ^ n % 8) × (r < 8) ⌝ }
-{
-    low(w >> n, 3) as usize
-}
-
 // The number that three bytes write.
 fn three(bytes: &[u8], i: usize) -> u64
     requires { ⌜ i + 3 ≤ length (now bytes) ⌝ }
@@ -36,14 +28,14 @@ fn eight(table: &[u8; 32], w: u64, out: &mut [u8], k: usize)
     requires { ⌜ Decodes (coding Dna3bit) (now table) × (k + 8 ≤ length (now out)) ⌝ }
     ensures { λ _. ⌜ now (out .exit) ≡ putAt k (symbolsOf (coding Dna3bit) 8 w) (now (out .entry)) ⌝ }
 {
-    out[k] = table[field(w, 21)];
-    out[k + 1] = table[field(w, 18)];
-    out[k + 2] = table[field(w, 15)];
-    out[k + 3] = table[field(w, 12)];
-    out[k + 4] = table[field(w, 9)];
-    out[k + 5] = table[field(w, 6)];
-    out[k + 6] = table[field(w, 3)];
-    out[k + 7] = table[field(w, 0)];
+    out[k] = table[field(w, 21, 3)];
+    out[k + 1] = table[field(w, 18, 3)];
+    out[k + 2] = table[field(w, 15, 3)];
+    out[k + 3] = table[field(w, 12, 3)];
+    out[k + 4] = table[field(w, 9, 3)];
+    out[k + 5] = table[field(w, 6, 3)];
+    out[k + 6] = table[field(w, 3, 3)];
+    out[k + 7] = table[field(w, 0, 3)];
 }
 
 // Blocks of eight bases from base 8 * block on, at most `most`, while all three bytes of a block are lent. The answer is how many were written.

@@ -9,7 +9,7 @@ ghost use Rattle.alphabet.specs.Symbols.{coding};
 ghost use Rattle.windows.specs.Window.{window};
 ghost use Rattle.windows.specs.Workers.{Fits, Decodes, Holds};
 
-// Bits that were read and not yet used: the `have` ones before byte `next`, which write the number `acc`.
+// Bits that were read and not yet used: the `have` ones before byte `next`. They are the low bits of `acc`; what stands above them is used.
 pub struct Held {
     pub next: usize,
     pub have: usize,
@@ -38,20 +38,19 @@ pub fn low(x: u64, n: usize) -> u64
     x & ((1u64 << n) - 1)
 }
 
-// The bits of acc, and a byte's behind them.
+// The bits of acc, and a byte's behind them; the eight highest fall out.
 pub fn push(acc: u64, byte: u8) -> u64
-    requires { ⌜ acc < 2 ^ 48 ⌝ }
-    ensures { λ r. ⌜ r ≡ acc * 256 + byte ⌝ }
+    ensures { λ r. ⌜ r ≡ acc % 2 ^ 56 * 256 + byte ⌝ }
 {
     (acc << 8) | (byte as u64)
 }
 
-// The bits of acc above its n low ones, as an index.
-fn above(acc: u64, n: usize) -> usize
-    requires { ⌜ n < 64 ⌝ }
-    ensures { λ r. ⌜ r ≡ acc / 2 ^ n ⌝ }
+// The b bits of x above its n low ones.
+pub fn field(x: u64, n: usize, b: usize) -> usize
+    requires { ⌜ (n < 64) × (b < 64) ⌝ }
+    ensures { λ r. ⌜ r ≡ x / 2 ^ n % 2 ^ b ⌝ }
 {
-    (acc >> n) as usize
+    low(x >> n, b) as usize
 }
 
 // What is left of a byte from bit `bit` of the file on; nothing where that bit is a byte's first.
@@ -68,18 +67,17 @@ fn prime(bytes: &[u8], offset: usize, bit: usize) -> Held
             acc: 0,
         };
     }
-    let have = 8 - skip;
-    let acc = low(fetch(bytes, offset, next) as u64, have);
+    let acc = fetch(bytes, offset, next) as u64;
     Held {
         next: next + 1,
-        have: have,
+        have: 8 - skip,
         acc: acc,
     }
 }
 
 // At least b bits: one byte more where fewer are at hand.
 fn refill(bytes: &[u8], offset: usize, held: Held, b: usize) -> Held
-    requires { ⌜ (held .have < 8) × (held .acc < 256) × (held .next < 2 ^ 63) × (b ≤ 8) ⌝ }
+    requires { ⌜ (held .have < 8) × (held .next < 2 ^ 63) × (b ≤ 8) ⌝ }
     ensures { λ r. ⌜ (b ≤ r .have) × (r .have < b + 8)
         × ((place : ℕ) → Holds (fileByte (now (bytes .entry)) offset) place held → Holds (fileByte (now (bytes .entry)) offset) place r) ⌝ }
 {
@@ -115,9 +113,8 @@ pub fn roll(
     while n < count {
         held = refill(bytes, offset, held, b);
         let have = held.have - b;
-        let code = above(held.acc, have);
+        let code = field(held.acc, have, b);
         out[from + n] = table[code];
-        held.acc = low(held.acc, have);
         held.have = have;
         n += 1;
     }

@@ -17,7 +17,7 @@ shared-slice-read-push-2 : tie.Need-shared-slice-read-push-2
 shared-slice-read-push-2 c = search needs
 
 push-requires-2 : tie.Need-push-requires-2
-push-requires-2 c κs = omega (arith, c .before .push .ensures, c .shared-slice-known3 .given (c .before .before .before .before .args .i))
+push-requires-2 c κs = search needs
 
 add-push-2 : tie.Need-add-push-2
 add-push-2 c = search needs
@@ -26,14 +26,15 @@ shared-slice-read-push-3 : tie.Need-shared-slice-read-push-3
 shared-slice-read-push-3 c = search needs
 
 push-requires-3 : tie.Need-push-requires-3
-push-requires-3 c κs =
-    let p = c .before .before .before in
-    omega (arith, c .before .push2 .ensures, p .push .ensures, c .shared-slice-known4 .given (p .before .before .before .args .i), c .shared-slice-known4 .given (p .before .before .before .args .i + 1))
+push-requires-3 c κs = search needs
 
 returns : tie.Need-returns
 returns c =
-    let q = c .before .before in
-    omega (arith, c .push3 .ensures, q .push2 .ensures, q .before .before .push .ensures)
+    let k = c .before in
+    let q = k .before in
+    let p = q .before .before in
+    let i = p .before .before .before .args .i in
+    omega (arith, c .push3 .ensures, q .push2 .ensures, p .push .ensures, k .shared-slice-known4 .given i, k .shared-slice-known4 .given (i + 1))
 
 pub three-spec : {M : Type 1} → statement M
 three-spec =

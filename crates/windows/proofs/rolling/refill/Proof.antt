@@ -1,5 +1,5 @@
 use mathlib.Core.Path.{refl, ap, _∙_}
-use Prim.Native.Nat.{ℕ, _+_, _*_}
+use Prim.Native.Nat.{ℕ, _+_, _*_, _%_, _^_}
 use native.Mathlib.Omega.{arith}
 use borrow.Author.Needs.{needs}
 use Rattle.bits.specs.Packing.{fileByte}
@@ -27,8 +27,8 @@ returns c =
     let a = k .before .args in (
       omega arith,
       omega arith,
-      λ place r. refill-more (fileByte (a .bytes .now) (a .offset)) (λ j. file-small (a .bytes .now) (a .offset) j (λ i. k .shared-slice-known .given i .fits)) place (a .held) _ r refl refl
-          (p .push .ensures ∙ ap (λ (x : ℕ). a .held .acc * 256 + x) (p .before .fetch .ensures)),
+      λ place r. refill-more (fileByte (a .bytes .now) (a .offset)) (λ j. file-small (a .bytes .now) (a .offset) j (λ i. k .shared-slice-known .given i .fits)) place (a .held) _ r (k .before .pre .0) refl refl
+          (p .push .ensures ∙ ap (λ (x : ℕ). a .held .acc % 2 ^ 56 * 256 + x) (p .before .fetch .ensures)),
     )
 
 returns-2 : tie.Need-returns-2

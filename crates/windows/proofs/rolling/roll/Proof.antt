@@ -1,10 +1,9 @@
 use mathlib.Core.Path.{_≡_, refl, sym, ap, _∙_}
 use mathlib.Core.List.{List}
 use Prim.Native.Nat.{ℕ, _+_, _-_, _*_, _^_, _≤_, _<_, zero-le}
-use native.Mathlib.Nat.{add-zero, add-assoc, lt-of-lt-of-le}
+use native.Mathlib.Nat.{add-zero}
 use native.Mathlib.Omega.{arith}
 use lib.ListN.{length, length-set}
-use lib.Pow.{pow-mono}
 use borrow.Author.Needs.{needs}
 use Rattle.bits.specs.Tables.{tabulate, at}
 use Rattle.bits.specs.Packing.{fileByte}
@@ -12,7 +11,7 @@ use Rattle.bits.proofs.Files.{file-small}
 use Rattle.alphabet.specs.Symbols.{Coding, coding}
 use Rattle.windows.specs.Workers.{Holds}
 use Rattle.windows.proofs.Windows.{baseAt}
-use Rattle.windows.proofs.Turns.{Written, none-written, one-written, decoded, bit-fits, one-on, acc-lt, take-code, take-rest}
+use Rattle.windows.proofs.Turns.{Written, none-written, one-written, decoded, bit-fits, one-on, take-code, take-rest}
 use Rattle.windows.proofs.rolling.roll.Statement.{statement}
 use Rattle.windows.proofs.rolling.roll.Tie as tie
 
@@ -49,15 +48,15 @@ full : (c : tie.After-refill Inv-loop μ-loop)
 full c = c .refill .ensures .2 _ (c .before .before .loop .inv .2)
 
 -- the entry at the code is the base
-base : (c : tie.After-above Inv-loop μ-loop) (A : Coding)
+base : (c : tie.After-field Inv-loop μ-loop) (A : Coding)
     → A .width ≡ width (c .before .before .before .before .before) → start (c .before .before .before .before .before) .args .table .now ≡ tabulate 32 (A .symbol)
-    → (c .above .result < 32) × (at (start (c .before .before .before .before .before) .args .table .now) (c .above .result)
+    → (c .field .result < 32) × (at (start (c .before .before .before .before .before) .args .table .now) (c .field .result)
     ≡ baseAt A (start (c .before .before .before .before .before) .args .bytes .now) (start (c .before .before .before .before .before) .args .offset)
     (start (c .before .before .before .before .before) .args .start + c .before .before .before .before .loop .n))
 base c A w t =
     let r = c .before .before in
     let p = r .before .before .before in
-    decoded A _ _ (width p) _ (c .above .result) _ w (five p) t (c .above .ensures ∙ take-code (byte p) (small p) (width p) _ (r .refill .result) (full r) (r .refill .ensures .0))
+    decoded A _ _ (width p) _ (c .field .result) _ w (five p) t (c .field .ensures ∙ take-code (byte p) (small p) (width p) _ (r .refill .result) (full r) (r .refill .ensures .0))
 
 bits-per-symbol-requires : tie.Need-bits-per-symbol-requires Inv-loop μ-loop
 bits-per-symbol-requires c κs = search needs
@@ -84,7 +83,6 @@ refill-requires c κs =
     let p = c .before .before in
     let near : (start p .args .start + l .n) * width p ≤ 2 ^ 63 = bit-fits (omega (arith, start p .pre .1 .near)) (omega (arith, five p)) in (
       l .inv .1,
-      lt-of-lt-of-le (acc-lt (byte p) (small p) _ (l .held) (l .inv .2)) (pow-mono {j = 8} (omega (arith, l .inv .1))),
       omega (arith, near, l .inv .2 .up-to, l .inv .1),
       omega (arith, five p),
     )
@@ -92,8 +90,8 @@ refill-requires c κs =
 sub-have : tie.Need-sub-have Inv-loop μ-loop
 sub-have c = c .before .refill .ensures .0
 
-above-requires : tie.Need-above-requires Inv-loop μ-loop
-above-requires c κs = omega (arith, c .before .refill .ensures .1)
+field-requires : tie.Need-field-requires Inv-loop μ-loop
+field-requires c κs = let p = c .before .before .before .before in (omega (arith, c .before .refill .ensures .1, five p), omega (arith, five p))
 
 element-copy-out-out : tie.Need-element-copy-out-out Inv-loop μ-loop
 element-copy-out-out c =
@@ -111,29 +109,26 @@ slice-write-out c =
     let l = c .before .before .before .before in
     omega (arith, l .loop-test .taken, l .before .loop .inv .3, start (l .before .before) .pre .1 .space)
 
-low-requires : tie.Need-low-requires Inv-loop μ-loop
-low-requires c κs = omega (arith, c .before .before .before .refill .ensures .1)
-
 add-n : tie.Need-add-n Inv-loop μ-loop
 add-n c =
-    let l = c .before .before .before .before .before in
+    let l = c .before .before .before .before in
     omega (arith, l .loop-test .taken, start (l .before .before) .pre .1 .near)
 
 loop-less : tie.Need-loop-less Inv-loop μ-loop
-loop-less c = omega (arith, c .before .before .before .before .before .loop-test .taken)
+loop-less c = omega (arith, c .before .before .before .before .loop-test .taken)
 
 loop-again : tie.Need-loop-again Inv-loop μ-loop
 loop-again c =
-    let r = c .before .before .before .before in
+    let r = c .before .before .before in
     let more = r .before .loop-test .taken in
     let l = r .before .before .loop in
     let p = r .before .before .before in
     let a = start p .args in (
       omega (arith, more),
       omega (arith, r .refill .ensures .1),
-      rw (← one-on (a .start) (l .n) (width p)) (take-rest (byte p) (small p) (width p) _ (r .refill .result) (full r) (r .refill .ensures .0) _ refl refl (c .low .ensures)),
+      rw (← one-on (a .start) (l .n) (width p)) (take-rest (byte p) (small p) (width p) _ (r .refill .result) (full r) (r .refill .ensures .0) _ refl refl refl),
       simp length-set (l .inv .3),
-      λ A w t. one-written A (a .bytes .now) (a .offset) (a .from) (a .start) (l .n) (a .out .now) (l .out) (l .inv .4 A w t) _ (omega (arith, more, start p .pre .1 .space)) (base (c .before .before) A w t .1),
+      λ A w t. one-written A (a .bytes .now) (a .offset) (a .from) (a .start) (l .n) (a .out .now) (l .out) (l .inv .4 A w t) _ (omega (arith, more, start p .pre .1 .space)) (base (c .before) A w t .1),
     )
 
 same-length : tie.Need-same-length Inv-loop μ-loop
@@ -158,11 +153,10 @@ roll-spec =
     loop-holds
     refill-requires
     sub-have
-    above-requires
+    field-requires
     element-copy-out-out
     add-out
     slice-write-out
-    low-requires
     add-n
     loop-less
     loop-again
