@@ -4,3 +4,6 @@ pub mod Words
 pub mod Packed
 pub mod Hand
 pub mod Rolling
+pub mod Blocks
+pub mod Files
+pub mod Put

@@ -22,3 +22,7 @@ after p a s k = cond (ltb k p) (a / 2 ^ (p - 1 - k) % 2) (s (k - p))
 -- n digits, each w bits wide, cut from the bits of s from bit k on
 unfoldable pub cut : ℕ → (ℕ → ℕ) → ℕ → ℕ → List ℕ
 cut w s k n = tabulate n (λ i. word s (k + i * w) w)
+
+-- the c fields of a number, each b bits wide, the most significant first
+unfoldable pub fields : ℕ → ℕ → ℕ → List ℕ
+fields b c v = tabulate c (λ t. v / 2 ^ ((c - 1 - t) * b) % 2 ^ b)

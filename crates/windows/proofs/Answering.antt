@@ -1,0 +1,207 @@
+-- What an answer says of a call, and what it leaves in memory.
+use mathlib.Core.Path.{_≡_, refl, sym, ap, _∙_}
+use mathlib.Core.Bool.{Bool, true, false, _&&_}
+use mathlib.Core.List.{List, []}
+use Prim.Native.Nat.{ℕ, _+_, _-_, _*_, _/_, _^_, _≤_, _<_}
+use native.Mathlib.Nat.{mul-le-mul-right}
+use native.Mathlib.Omega.{arith}
+use borrow.Author.Tests.{ltb-true, leb-true, leb-false, lt-ltb, le-ltb, le-leb, lt-leb}
+use lib.Dec.{leb, ltb}
+use lib.ListN.{length, getD, List·getD-eq-default}
+use Rattle.bits.specs.Tables.{tabulate}
+use Rattle.bits.specs.Packing.{firstByte, endByte}
+use Rattle.bits.specs.Memory.{front, putAt}
+use Rattle.bits.proofs.Put.{put-front}
+use Rattle.alphabet.specs.Questions.{ask_else_then_, by, inBounds}
+use Rattle.alphabet.specs.Symbols.{Coding, coding}
+use Rattle.alphabet.specs.Names.{known, kinds, kindOf, numbered, namedAt}
+use Rattle.alphabet.specs.declared.kind.AlphabetType.{AlphabetType}
+use Rattle.alphabet.specs.declared.kind.AlphabetType.the-variants.{Unknown}
+use Rattle.alphabet.specs.declared.kind.Named.{Named}
+use Rattle.alphabet.specs.declared.refusal.Refusal.{Refusal}
+use Rattle.windows.specs.declared.read.Read.{Read}
+use Rattle.windows.specs.Window.{window, covers, readAt, coveredAt, readWrites}
+use Rattle.windows.specs.Workers.{Fits}
+use Rattle.windows.proofs.Windows.{window-bases}
+
+-- ---- an answer with bases passed every question
+
+abbrev counted : Read → ℕ
+counted (Read.Bases n) = n
+counted (Read.Refused q) = 0
+
+-- an answer with bases is no answer on "no"
+passed : (t : Bool) (no-answer rest : Read) (n : ℕ) → counted no-answer ≡ 0 → 0 < n → counted (ask t else no-answer then rest) ≡ n → (t ≡ true) × (counted rest ≡ n)
+passed true no-answer rest n z h e = (refl, e)
+passed false no-answer rest n z h e = absurd (omega arith)
+
+both : (a b : Bool) → a && b ≡ true → (a ≡ true) × (b ≡ true)
+both true b e = (refl, e)
+both false b e = let q : _≡_ {A = ℕ} 0 1 = cc in absurd (omega arith)
+
+-- the last question
+last : (start end room n : ℕ) → ltb start end ≡ true → inBounds end ≡ true → leb (end - start) room ≡ true → end - start ≡ n → Fits start n 0 room
+last start end room n some near space count =
+    record { near = omega (arith, ltb-true start end some, leb-true end (2 ^ 60) near); space = omega (arith, leb-true (end - start) room space) }
+
+pub accepted : (alphabet offset start end room : ℕ) (r : Read) (n : ℕ) → r ≡ readAt alphabet offset start end room → r ≡ Read.Bases n → (n ≡ 0 → ⊥) → Fits start n 0 room
+unfolding readAt
+accepted alphabet offset start end room r n e told z =
+    let h : 0 < n = omega arith in
+    let p₁ = passed (ltb start end) _ _ n refl h (sym (ap counted e) ∙ ap counted told) in
+    let p₂ = passed (known alphabet) _ _ n refl h (p₁ .1) in
+    let p₃ = passed (inBounds end && inBounds offset) _ _ n refl h (p₂ .1) in
+    let p₄ = passed (leb (end - start) room) _ _ n refl h (p₃ .1) in
+    last start end room n (p₁ .0) (both (inBounds end) (inBounds offset) (p₃ .0) .0) (p₄ .0) (p₄ .1)
+
+pub covered-accepted : (alphabet : ℕ) (lent : List ℕ) (offset start end room : ℕ) (r : Read) (n : ℕ) → r ≡ coveredAt alphabet lent offset start end room → r ≡ Read.Bases n → (n ≡ 0 → ⊥) → Fits start n 0 room
+unfolding coveredAt
+covered-accepted alphabet lent offset start end room r n e told z =
+    let h : 0 < n = omega arith in
+    let p₁ = passed (ltb start end) _ _ n refl h (sym (ap counted e) ∙ ap counted told) in
+    let p₂ = passed (known alphabet) _ _ n refl h (p₁ .1) in
+    let p₃ = passed (inBounds end && inBounds offset) _ _ n refl h (p₂ .1) in
+    let p₄ = passed (covers (numbered alphabet) lent offset start end) _ _ n refl h (p₃ .1) in
+    let p₅ = passed (leb (end - start) room) _ _ n refl h (p₄ .1) in
+    last start end room n (p₁ .0) (both (inBounds end) (inBounds offset) (p₃ .0) .0) (p₅ .0) (p₅ .1)
+
+-- ---- memory afterwards
+
+module _ (alphabet : ℕ) (lent : List ℕ) (offset start : ℕ) (memory : List ℕ) (answer : Read) where
+  abbrev pub After : List ℕ → Type 0
+  After out = out ≡ front (readWrites alphabet lent offset start answer) memory
+
+  pub bases-after : (n : ℕ) (out : List ℕ) → Read.Bases n ≡ answer → out ≡ putAt 0 (window (numbered alphabet) lent offset start n) memory → After out
+  unfolding readWrites
+  bases-after n out e w =
+      w ∙ put-front (window (numbered alphabet) lent offset start n) memory ∙ ap (λ (r : Read). front (readWrites alphabet lent offset start r) memory) e
+
+  pub none-after : Read.Bases 0 ≡ answer → After memory
+  unfolding readWrites tabulate
+  none-after e =
+      ap (λ (l : List ℕ). front l memory) (sym (window-bases (numbered alphabet) lent offset start 0))
+      ∙ ap (λ (r : Read). front (readWrites alphabet lent offset start r) memory) e
+
+  pub refused-after : (q : Refusal) → Read.Refused q ≡ answer → After memory
+  unfolding readWrites
+  refused-after q e = ap (λ (r : Read). front (readWrites alphabet lent offset start r) memory) e
+
+  -- the whole of a call, by what its questions answered
+  module _ (r : Read) (e : r ≡ answer) where
+    pub empty-call : (n : ℕ) → r ≡ Read.Bases n → n ≡ 0 → (Read.Bases 0 ≡ answer) × After memory
+    empty-call n told z =
+        let a : Read.Bases 0 ≡ answer = ap Read.Bases (sym z) ∙ sym told ∙ e in
+        (a, none-after a)
+
+    pub read-call : (kind : AlphabetType) (n : ℕ) (out : List ℕ) → r ≡ Read.Bases n → kind ≡ kindOf alphabet → out ≡ putAt 0 (window (coding kind) lent offset start n) memory → (Read.Bases n ≡ answer) × After out
+    read-call kind n out told k w =
+        (sym told ∙ e, bases-after n out (sym told ∙ e) (w ∙ ap (λ (x : AlphabetType). putAt 0 (window (coding x) lent offset start n) memory) k))
+
+    pub refused-call : (q : Refusal) → r ≡ Read.Refused q → (Read.Refused q ≡ answer) × After memory
+    refused-call q told = (sym told ∙ e, refused-after q (sym told ∙ e))
+
+-- ---- question 6
+
+-- the byte range is lent: it begins no earlier and ends no later than the lent bytes
+pub covered-yes : (A : Coding) (lent : List ℕ) (offset start end : ℕ) → offset ≤ firstByte (A .width) start → endByte (A .width) end - offset ≤ length lent → covers A lent offset start end ≡ true
+unfolding covers
+covered-yes A lent offset start end l h = rw (le-leb offset (firstByte (A .width) start) l, le-leb (endByte (A .width) end) (offset + length lent) (omega arith))
+
+pub covered-early : (A : Coding) (lent : List ℕ) (offset start end : ℕ) → firstByte (A .width) start < offset → covers A lent offset start end ≡ false
+unfolding covers
+covered-early A lent offset start end l = rw (lt-leb offset (firstByte (A .width) start) l)
+
+pub covered-late : (A : Coding) (lent : List ℕ) (offset start end : ℕ) → offset ≤ firstByte (A .width) start → length lent < endByte (A .width) end - offset → covers A lent offset start end ≡ false
+unfolding covers
+covered-late A lent offset start end l h = rw (le-leb offset (firstByte (A .width) start) l, lt-leb (endByte (A .width) end) (offset + length lent) (omega arith))
+
+-- a range's first byte stands no later than its end
+pub range-order : (b start end : ℕ) → start < end → firstByte b start ≤ endByte b end
+range-order b start end h = omega (arith, mul-le-mul-right {m = start} {n = end} b (omega arith))
+
+-- ---- the kind of a number
+
+pub kind-named : (r : Named) (alphabet : ℕ) (kind : AlphabetType) → r ≡ namedAt alphabet → r ≡ Named.Kind kind → kind ≡ kindOf alphabet
+unfolding namedAt
+kind-named r alphabet kind e q = go (known alphabet) (sym q ∙ e)
+  where
+    go : (t : Bool) → Named.Kind kind ≡ (ask t else Named.Refused (by 8 []) then Named.Kind (kindOf alphabet)) → kind ≡ kindOf alphabet
+    go true p = cc
+    go false p = let z : _≡_ {A = ℕ} 0 1 = cc in absurd (omega arith)
+
+pub kind-unnamed : (r : Named) (alphabet : ℕ) (q : Refusal) → r ≡ namedAt alphabet → r ≡ Named.Refused q → Unknown ≡ kindOf alphabet
+unfolding namedAt kindOf
+kind-unnamed r alphabet q e p = go (known alphabet) refl (sym p ∙ e)
+  where
+    go : (t : Bool) → known alphabet ≡ t → Named.Refused q ≡ (ask t else Named.Refused (by 8 []) then Named.Kind (kindOf alphabet)) → Unknown ≡ getD kinds alphabet Unknown
+    go true k w = let z : _≡_ {A = ℕ} 0 1 = cc in absurd (omega arith)
+    go false k w =
+        let past : 6 ≤ alphabet = omega (arith, leb-false alphabet 5 k) in
+        sym (List·getD-eq-default kinds Unknown past)
+
+-- ---- each answer of a zero-filling read
+
+module _ (alphabet offset start end room : ℕ) where
+  pub read-empty : end ≤ start → Read.Bases 0 ≡ readAt alphabet offset start end room
+  unfolding readAt
+  read-empty h = rw (le-ltb start end h)
+
+  module _ (some : start < end) where
+    pub read-unknown : 5 < alphabet → Read.Refused (by 8 []) ≡ readAt alphabet offset start end room
+    unfolding readAt
+    read-unknown h = rw (lt-ltb start end some, lt-leb alphabet 5 h)
+
+    module _ (named : alphabet ≤ 5) where
+      pub read-far-end : 2 ^ 60 < end → Read.Refused (by 2 []) ≡ readAt alphabet offset start end room
+      unfolding readAt
+      read-far-end h = rw (lt-ltb start end some, le-leb alphabet 5 named, lt-leb end (2 ^ 60) h)
+
+      module _ (near : end ≤ 2 ^ 60) where
+        pub read-far-offset : 2 ^ 60 < offset → Read.Refused (by 2 []) ≡ readAt alphabet offset start end room
+        unfolding readAt
+        read-far-offset h = rw (lt-ltb start end some, le-leb alphabet 5 named, le-leb end (2 ^ 60) near, lt-leb offset (2 ^ 60) h)
+
+        module _ (by-near : offset ≤ 2 ^ 60) where
+          pub read-short : room < end - start → Read.Refused (by 4 []) ≡ readAt alphabet offset start end room
+          unfolding readAt
+          read-short h = rw (lt-ltb start end some, le-leb alphabet 5 named, le-leb end (2 ^ 60) near, le-leb offset (2 ^ 60) by-near, lt-leb (end - start) room h)
+
+          pub read-bases : end - start ≤ room → Read.Bases (end - start) ≡ readAt alphabet offset start end room
+          unfolding readAt
+          read-bases h = rw (lt-ltb start end some, le-leb alphabet 5 named, le-leb end (2 ^ 60) near, le-leb offset (2 ^ 60) by-near, le-leb (end - start) room h)
+
+-- ---- each answer of a covered read
+
+module _ (alphabet : ℕ) (lent : List ℕ) (offset start end room : ℕ) where
+  pub covered-empty : end ≤ start → Read.Bases 0 ≡ coveredAt alphabet lent offset start end room
+  unfolding coveredAt
+  covered-empty h = rw (le-ltb start end h)
+
+  module _ (some : start < end) where
+    pub covered-unknown : 5 < alphabet → Read.Refused (by 8 []) ≡ coveredAt alphabet lent offset start end room
+    unfolding coveredAt
+    covered-unknown h = rw (lt-ltb start end some, lt-leb alphabet 5 h)
+
+    module _ (named : alphabet ≤ 5) where
+      pub covered-far-end : 2 ^ 60 < end → Read.Refused (by 2 []) ≡ coveredAt alphabet lent offset start end room
+      unfolding coveredAt
+      covered-far-end h = rw (lt-ltb start end some, le-leb alphabet 5 named, lt-leb end (2 ^ 60) h)
+
+      module _ (near : end ≤ 2 ^ 60) where
+        pub covered-far-offset : 2 ^ 60 < offset → Read.Refused (by 2 []) ≡ coveredAt alphabet lent offset start end room
+        unfolding coveredAt
+        covered-far-offset h = rw (lt-ltb start end some, le-leb alphabet 5 named, le-leb end (2 ^ 60) near, lt-leb offset (2 ^ 60) h)
+
+        module _ (by-near : offset ≤ 2 ^ 60) where
+          pub covered-not : covers (numbered alphabet) lent offset start end ≡ false → Read.Refused (by 3 []) ≡ coveredAt alphabet lent offset start end room
+          unfolding coveredAt
+          covered-not h = rw (lt-ltb start end some, le-leb alphabet 5 named, le-leb end (2 ^ 60) near, le-leb offset (2 ^ 60) by-near, h)
+
+          module _ (all : covers (numbered alphabet) lent offset start end ≡ true) where
+            pub covered-short : room < end - start → Read.Refused (by 4 []) ≡ coveredAt alphabet lent offset start end room
+            unfolding coveredAt
+            covered-short h = rw (lt-ltb start end some, le-leb alphabet 5 named, le-leb end (2 ^ 60) near, le-leb offset (2 ^ 60) by-near, all, lt-leb (end - start) room h)
+
+            pub covered-bases : end - start ≤ room → Read.Bases (end - start) ≡ coveredAt alphabet lent offset start end room
+            unfolding coveredAt
+            covered-bases h = rw (lt-ltb start end some, le-leb alphabet 5 named, le-leb end (2 ^ 60) near, le-leb offset (2 ^ 60) by-near, all, le-leb (end - start) room h)

@@ -1,0 +1,4 @@
+pub mod Windows
+pub mod Turns
+pub mod WholeBytes
+pub mod Answering

@@ -1,0 +1,104 @@
+-- The laws of windows that other crates cite: each base by itself, a window in two parts, a window of a packed text.
+use mathlib.Core.Path.{_≡_, refl, sym, ap, ap₂, _∙_}
+use mathlib.Core.Bool.{true}
+use mathlib.Core.List.{List, [], _∷_, _++_, map}
+use Prim.Native.Nat.{ℕ, zero, suc, _+_, _-_, _*_, _/_, _%_, _^_, _≤_, _<_}
+use native.Mathlib.Nat.{add-assoc, add-mul, add-zero, suc-mul, mul-le-mul-right, mod-eq-of-lt}
+use native.Mathlib.Omega.{arith}
+use lib.ListN.{length, getD, take, drop, length-map, length-drop, List·getD-map}
+use lib.Seq.{length-take-le, getD-take, getD-drop}
+use Rattle.bits.specs.Tables.{tabulate, at}
+use Rattle.bits.specs.Streams.{bitAt, word, cut}
+use Rattle.bits.specs.Packing.{pack, fileByte, codesFrom}
+use Rattle.bits.proofs.Tabulated.{length-tabulate, tabulate-ext, tabulate-add, is-tabulate, getD-within}
+use Rattle.bits.proofs.Words.{word-ext}
+use Rattle.bits.proofs.Packed.{codes-of-pack}
+use Rattle.alphabet.specs.Symbols.{Coding}
+use Rattle.alphabet.proofs.Laws.{Lawful}
+use Rattle.windows.specs.Window.{window}
+
+map-append : (f : ℕ → ℕ) (xs ys : List ℕ) → map f (xs ++ ys) ≡ map f xs ++ map f ys
+map-append f [] ys = refl
+map-append f (x ∷ xs) ys = ap (λ (l : List ℕ). f x ∷ l) (map-append f xs ys)
+
+map-tabulate : (f g : ℕ → ℕ) (n : ℕ) → map f (tabulate n g) ≡ tabulate n (λ i. f (g i))
+unfolding tabulate
+map-tabulate f g zero = refl
+map-tabulate f g (suc n) = map-append f (tabulate n g) (g n ∷ []) ∙ ap (λ (l : List ℕ). l ++ (f (g n) ∷ [])) (map-tabulate f g n)
+
+module _ (A : Coding) (lent : List ℕ) (offset : ℕ) where
+  -- base i of a file: the symbol of the b bits at i * b
+  unfoldable pub baseAt : ℕ → ℕ
+  baseAt i = A .symbol (word (bitAt 8 (fileByte lent offset)) (i * A .width) (A .width))
+
+  -- a window is its bases
+  pub window-bases : (start n : ℕ) → window A lent offset start n ≡ tabulate n (λ i. baseAt (start + i))
+  unfolding window codesFrom cut baseAt
+  window-bases start n =
+      let b : ℕ = A .width in
+      let s : ℕ → ℕ = bitAt 8 (fileByte lent offset) in
+      map-tabulate (A .symbol) (λ i. word s (start * b + i * b) b) n
+      ∙ tabulate-ext n (λ i. A .symbol (word s (start * b + i * b) b)) (λ i. baseAt (start + i))
+      (λ i h. ap (λ (x : ℕ). A .symbol (word s x b)) (sym (add-mul start i b)))
+
+  pub length-window : (start n : ℕ) → length (window A lent offset start n) ≡ n
+  length-window start n = ap length (window-bases start n) ∙ length-tabulate n (λ i. baseAt (start + i))
+
+  -- a window splits at any inner base
+  pub window-add : (start m n : ℕ) → window A lent offset start (m + n) ≡ window A lent offset start m ++ window A lent offset (start + m) n
+  window-add start m n =
+      window-bases start (m + n)
+      ∙ tabulate-add m n (λ i. baseAt (start + i))
+      ∙ ap (λ (l : List ℕ). tabulate m (λ i. baseAt (start + i)) ++ l)
+      (tabulate-ext n (λ i. baseAt (start + (m + i))) (λ i. baseAt (start + m + i)) (λ i h. ap baseAt (sym (add-assoc start m i))))
+      ∙ ap₂ (λ (k l : List ℕ). k ++ l) (sym (window-bases start m)) (sym (window-bases (start + m) n))
+
+  -- a window of one base
+  pub window-one : (start : ℕ) → window A lent offset start 1 ≡ baseAt start ∷ []
+  unfolding tabulate
+  window-one start = window-bases start 1 ∙ ap (λ (i : ℕ). baseAt i ∷ []) (add-zero start)
+
+-- a base depends on its own b bits and on nothing else: files that have them in common have the base in common
+pub base-own : (A : Coding) (lent lent′ : List ℕ) (offset offset′ i : ℕ)
+    → ((t : ℕ) → t < A .width → bitAt 8 (fileByte lent offset) (i * A .width + t) ≡ bitAt 8 (fileByte lent′ offset′) (i * A .width + t))
+    → baseAt A lent offset i ≡ baseAt A lent′ offset′ i
+unfolding baseAt
+base-own A lent lent′ offset offset′ i own =
+    ap (A .symbol) (word-ext (bitAt 8 (fileByte lent offset)) (bitAt 8 (fileByte lent′ offset′)) (i * A .width) (i * A .width) (A .width) own)
+
+-- and so for a window and the bits of its bases
+pub window-own : (A : Coding) (lent lent′ : List ℕ) (offset offset′ start n : ℕ)
+    → ((k : ℕ) → start * A .width ≤ k → k < (start + n) * A .width → bitAt 8 (fileByte lent offset) k ≡ bitAt 8 (fileByte lent′ offset′) k)
+    → window A lent offset start n ≡ window A lent′ offset′ start n
+window-own A lent lent′ offset offset′ start n own =
+    let b : ℕ = A .width in
+    window-bases A lent offset start n
+    ∙ tabulate-ext n (λ i. baseAt A lent offset (start + i)) (λ i. baseAt A lent′ offset′ (start + i))
+    (λ i h.
+    base-own A lent lent′ offset offset′ (start + i)
+    (λ t l.
+    let up : suc i * b ≤ n * b = mul-le-mul-right b h in
+    own ((start + i) * b + t) (omega (arith, add-mul start i b)) (omega (arith, add-mul start i b, add-mul start n b, up, suc-mul i b))))
+    ∙ sym (window-bases A lent′ offset′ start n)
+
+-- a window of a packed text gives the text's symbols back, where the file's bits are the packing's at the window's bases and these are members
+pub window-of-text : (A : Coding) → Lawful A → (text lent : List ℕ) (offset start n : ℕ)
+    → start + n ≤ length text
+    → ((i : ℕ) → i < n → A .member (at text (start + i)) ≡ true)
+    → ((k : ℕ) → start * A .width ≤ k → k < (start + n) * A .width → bitAt 8 (fileByte lent offset) k ≡ bitAt 8 (at (pack (A .width) (map (A .code) text))) k)
+    → window A lent offset start n ≡ map (A .canon) (take n (drop start text))
+unfolding window
+window-of-text A law text lent offset start n room members own =
+    let b : ℕ = A .width in
+    let part : List ℕ = take n (drop start text) in
+    let len : length part ≡ n = length-take-le n (drop start text) (omega (arith, length-drop start text)) in
+    let coded : (i : ℕ) → i < n → A .symbol (at (map (A .code) text) (start + i) % 2 ^ b) ≡ A .canon (at text (start + i)) = λ i h.
+    let v : ℕ = at text (start + i) in
+    let code : at (map (A .code) text) (start + i) ≡ A .code v = getD-within (map (A .code) text) (start + i) 0 (A .code 0) (rw (length-map text (A .code)) (omega arith)) ∙ List·getD-map (A .code) text (start + i) 0 in
+    ap (λ (x : ℕ). A .symbol (x % 2 ^ b)) code ∙ ap (A .symbol) (mod-eq-of-lt (law .fits v (members i h))) ∙ law .back v (members i h) in
+    let given : (i : ℕ) → i < n → getD (map (A .canon) part) i (A .canon 0) ≡ A .canon (at text (start + i)) = λ i h.
+    List·getD-map (A .canon) part i 0 ∙ ap (A .canon) (getD-take n (drop start text) i 0 h ∙ getD-drop start text i 0) in
+    ap (map (A .symbol)) (codes-of-pack b (map (A .code) text) lent offset start n (rw (length-map text (A .code)) room) own)
+    ∙ map-tabulate (A .symbol) (λ i. at (map (A .code) text) (start + i) % 2 ^ b) n
+    ∙ tabulate-ext n (λ i. A .symbol (at (map (A .code) text) (start + i) % 2 ^ b)) (λ i. A .canon (at text (start + i))) coded
+    ∙ sym (is-tabulate n (λ i. A .canon (at text (start + i))) (A .canon 0) (map (A .canon) part) (length-map part (A .canon) ∙ len) given)

@@ -1,0 +1,65 @@
+use mathlib.Core.Path.{sym, ap, _∙_}
+use borrow.Author.Needs.{needs}
+use Rattle.bits.specs.Memory.{putAt}
+use Rattle.alphabet.specs.Symbols.{coding}
+use Rattle.alphabet.specs.declared.kind.AlphabetType.{AlphabetType}
+use Rattle.windows.specs.Window.{window}
+use Rattle.windows.proofs.read.written.Statement.{statement}
+use Rattle.windows.proofs.read.written.Tie as tie
+
+enum-told : tie.Need-enum-told
+enum-told c = search needs
+
+two-bits-requires : tie.Need-two-bits-requires
+two-bits-requires c κs = search needs
+
+enum-told-2 : tie.Need-enum-told-2
+enum-told-2 c = search needs
+
+three-bits-requires : tie.Need-three-bits-requires
+three-bits-requires c κs = search needs
+
+rolled-requires : tie.Need-rolled-requires
+rolled-requires c κs = search needs
+
+same-length : tie.Need-same-length
+same-length c = search needs
+
+returns : tie.Need-returns
+returns c =
+    let w = c .before .before in
+    let t = w .before .before in
+    let a = t .before .before .before .before .args in
+    w .two-bits .ensures ∙ ap (λ (k : AlphabetType). putAt 0 (window (coding k) (a .bytes .now) (a .offset) (a .start) (a .count)) (a .out .now)) (sym (t .enum-told .given .1))
+
+same-length-2 : tie.Need-same-length-2
+same-length-2 c = search needs
+
+returns-2 : tie.Need-returns-2
+returns-2 c =
+    let w = c .before .before in
+    let t = w .before .before in
+    let a = t .before .before .before .before .args in
+    w .three-bits .ensures ∙ ap (λ (k : AlphabetType). putAt 0 (window (coding k) (a .bytes .now) (a .offset) (a .start) (a .count)) (a .out .now)) (sym (t .enum-told2 .given .1))
+
+same-length-3 : tie.Need-same-length-3
+same-length-3 c = search needs
+
+returns-3 : tie.Need-returns-3
+returns-3 c = search needs
+
+pub written-spec : {M : Type 1} → statement M
+written-spec =
+    tie.close
+    (tie.spec
+    enum-told
+    two-bits-requires
+    enum-told-2
+    three-bits-requires
+    rolled-requires
+    same-length
+    returns
+    same-length-2
+    returns-2
+    same-length-3
+    returns-3)

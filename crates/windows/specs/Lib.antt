@@ -1,0 +1,3 @@
+pub mod Window
+pub mod Answers
+pub mod Workers

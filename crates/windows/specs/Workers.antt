@@ -1,0 +1,41 @@
+-- What the private functions of this crate ask and say; no public contract cites it.
+use mathlib.Core.Path.{_≡_}
+use mathlib.Core.List.{List, map}
+use Prim.Native.Nat.{ℕ, _+_, _*_, _%_, _^_, _≤_, _<_}
+use Rattle.bits.specs.Tables.{tabulate, at}
+use Rattle.bits.specs.Streams.{bitAt, word, fields}
+use Rattle.bits.specs.Packing.{fileByte}
+use Rattle.alphabet.specs.Symbols.{Coding, coding}
+use Rattle.alphabet.specs.declared.kind.AlphabetType.the-variants.{Dna2bit}
+use Rattle.windows.specs.declared.rolling.Held.{Held}
+
+-- a window that passed the questions: its end is near, and memory has space for its bases from place `from` on
+pub record Fits (start count from room : ℕ) : Type 0 where
+  pub near : start + count ≤ 2 ^ 60
+  pub space : from + count ≤ room
+
+-- the decoding table of an alphabet whose codes have at most five bits
+pub record Decodes (A : Coding) (table : List ℕ) : Type 0 where
+  pub five : A .width ≤ 5
+  pub entries : table ≡ tabulate 32 (A .symbol)
+
+-- the bits at hand are those from bit `place` on, up to byte `next`; the low bits of `acc` are the number that they write
+pub record Holds (byte : ℕ → ℕ) (place : ℕ) (held : Held) : Type 0 where
+  pub up-to : 8 * held .next ≡ place + held .have
+  pub value : held .acc % 2 ^ held .have ≡ word (bitAt 8 byte) place (held .have)
+
+-- the symbols of the c codes, b bits wide, that a number writes
+unfoldable pub symbolsOf : Coding → ℕ → ℕ → List ℕ
+symbolsOf A c v = map (A .symbol) (fields (A .width) c v)
+
+-- the 256 rows of Dna2bit: a row for each packed byte, its four symbols
+unfoldable pub Rows : List (List ℕ) → Type 0
+Rows rows = rows ≡ tabulate 256 (symbolsOf (coding Dna2bit) 4)
+
+-- n entries of a list from entry `first` on
+unfoldable pub stretch : List ℕ → ℕ → ℕ → List ℕ
+stretch xs first n = tabulate n (λ i. at xs (first + i))
+
+-- n bytes of a file from byte `start` on
+unfoldable pub fileBytes : List ℕ → ℕ → ℕ → ℕ → List ℕ
+fileBytes lent offset start n = tabulate n (λ i. fileByte lent offset (start + i))
