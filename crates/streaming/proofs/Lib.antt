@@ -1,0 +1,3 @@
+pub mod Hand
+pub mod Greatest
+pub mod Levels

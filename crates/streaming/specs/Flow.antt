@@ -1,0 +1,36 @@
+-- Within a call: what the stream's own functions promise each other. Document 01 says nothing of it.
+use Prim.Native.Nat.{ℕ, _+_, _*_, _≤_, _<_}
+use mathlib.Core.Path.{_≡_}
+use mathlib.Core.List.{List, _++_}
+use lib.ListN.{length, drop}
+use Rattle.alphabet.specs.Symbols.{Coding}
+use Rattle.bits.specs.Tables.{tabulate}
+use Rattle.bits.specs.Streams.{word}
+use Rattle.streaming.specs.Stream.{readsBy, sourceBits, used, basesOf}
+use Rattle.streaming.specs.declared.decoder.StreamingDecoder.{StreamingDecoder}
+use Rattle.streaming.specs.declared.flow.Flow.{Flow}
+
+-- base i of a call
+unfoldable pub baseAt : StreamingDecoder → List ℕ → ℕ → ℕ
+baseAt s source i = readsBy s .symbol (word (sourceBits s source) (used s i) (readsBy s .width))
+
+-- memory with the first n bases of a call at its front
+unfoldable pub filled : StreamingDecoder → List ℕ → ℕ → List ℕ → List ℕ
+filled s source n memory = tabulate n (baseAt s source) ++ drop n memory
+
+-- with n bases written and `taken` bytes taken, `have` bits are taken and not used, and they write `acc`
+pub record Level (s : StreamingDecoder) (source : List ℕ) (acc have taken n : ℕ) : Type 0 where
+  pub place : used s n + have ≡ s .bits + taken * 8
+  pub within : taken ≤ length source
+  pub held : acc ≡ word (sourceBits s source) (used s n) have
+
+-- before the first base: no byte is taken that the skip does not need
+pub record Opened (s : StreamingDecoder) (source : List ℕ) (f : Flow) : Type 0 where
+  pub few : f .have < 8
+  pub level : Level s source (f .acc) (f .have) (f .taken) 0
+
+-- after the last base: none is left out, and no byte is taken that no base needs
+pub record Poured (s : StreamingDecoder) (source : List ℕ) (room : ℕ) (f : Flow) : Type 0 where
+  pub few : f .have < 8
+  pub level : Level s source (f .acc) (f .have) (f .taken) (f .written)
+  pub all : f .written ≡ basesOf s source room

@@ -1,0 +1,3 @@
+pub mod Stream
+pub mod Answers
+pub mod Flow
