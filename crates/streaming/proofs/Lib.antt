@@ -1,3 +1,5 @@
+pub mod Shifts
 pub mod Hand
 pub mod Greatest
 pub mod Levels
+pub mod Calls

@@ -1,6 +1,10 @@
 // The stream's state and calls.
 use alphabet::AlphabetType;
+use alphabet::Named;
 use alphabet::Refusal;
+use alphabet::kind_of_number;
+ghost use mathlib.Core.Path.{_≡_};
+ghost use Rattle.streaming.specs.Stream.{soundStream, startStreamAt, statusOf};
 
 // `skip` bits are to be passed over first (0: done, or never due); `budget` bases are to come; `bits` bits, of value `pending`, are taken and not used.
 pub struct StreamingDecoder {
@@ -32,4 +36,54 @@ pub enum Streamed {
         next: StreamingDecoder,
     },
     Refused(Refusal, StreamingDecoder),
+}
+
+impl StreamingDecoder {
+    // A stream that has taken nothing. A number above 5 is refused by 8, a skip above 7 by 6.
+    pub fn new(alphabet: u64, skip: u64, budget: u64) -> StreamStarted
+        ensures { λ r. ⌜ r ≡ startStreamAt alphabet skip budget ⌝ }
+    {
+        let Named::Kind(kind) = kind_of_number(alphabet) else {
+            return StreamStarted::Refused(Refusal::NoAlphabet);
+        };
+        if 8 <= skip {
+            return StreamStarted::Refused(Refusal::BadSkip);
+        }
+        StreamStarted::Fresh(StreamingDecoder {
+            alphabet: kind,
+            skip: skip as u8,
+            budget,
+            bits: 0,
+            pending: 0,
+        })
+    }
+
+    // Question 4: skip below 8, at most 7 bits pending, their value below 2 to their count, none while the skip is due.
+    fn is_sound(self) -> bool
+        ensures { λ r. ⌜ r ≡ soundStream self ⌝ }
+    {
+        if 8 <= self.skip {
+            return false;
+        }
+        if 8 <= self.bits {
+            return false;
+        }
+        if (1u64 << (self.bits as usize)) <= (self.pending as u64) {
+            return false;
+        }
+        self.skip == 0 || self.bits == 0
+    }
+}
+
+// The status once the skip is done, from the budget and the space that are left.
+fn status_of(budget: u64, room: usize) -> Status
+    ensures { λ r. ⌜ r ≡ statusOf budget room ⌝ }
+{
+    if budget == 0 {
+        return Status::Done;
+    }
+    if room == 0 {
+        return Status::Full;
+    }
+    Status::Hungry
 }

@@ -1,6 +1,7 @@
 // The stream: the bases of a stretch of packed bytes, fed in pieces.
 mod decoder;
 mod flow;
+mod shift;
 
 pub use decoder::Status;
 pub use decoder::StreamStarted;
