@@ -3,3 +3,5 @@ pub mod Hand
 pub mod Greatest
 pub mod Levels
 pub mod Calls
+pub mod Openings
+pub mod Blocks

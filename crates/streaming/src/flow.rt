@@ -1,9 +1,56 @@
 // Within a call: the bits at hand, and the loops that cut bases from them.
+use crate::decoder::StreamingDecoder;
+use crate::shift::low;
+use crate::shift::push;
+ghost use mathlib.Core.Bool.{true, _||_};
+ghost use mathlib.Core.Path.{_≡_};
+ghost use Prim.Native.Nat.{_+_, _*_, _^_, _<_, _≤_};
+ghost use lib.Dec.{eqb, ltb};
+ghost use lib.ListN.{length};
+ghost use Rattle.bits.specs.Tables.{at};
+ghost use Rattle.bits.specs.Streams.{bitAt, word};
+ghost use Rattle.streaming.specs.Stream.{soundStream};
+ghost use Rattle.streaming.specs.Flow.{Opened};
 
 // `written` bases are written and `taken` source bytes taken; `have` bits, of value `acc`, are taken and not used.
-pub struct Flow {
+pub(crate) struct Flow {
     pub acc: u64,
     pub have: usize,
     pub taken: usize,
     pub written: usize,
+}
+
+// The bits at hand before the first base: those that pend or, with the skip due, those of the first byte that the skip leaves.
+pub(crate) fn opened(s: StreamingDecoder, source: &[u8]) -> Flow
+    requires { ⌜ (soundStream s ≡ true) × ((eqb (s .skip) 0 || ltb 0 (length (now source))) ≡ true) ⌝ }
+    ensures { λ r. ⌜ Opened s (now (source .entry)) r ⌝ }
+{
+    let skip = s.skip as usize;
+    if skip == 0 {
+        return Flow {
+            acc: s.pending as u64,
+            have: s.bits as usize,
+            taken: 0,
+            written: 0,
+        };
+    }
+    let have = 8 - skip;
+    Flow {
+        acc: low(source[0] as u64, have),
+        have,
+        taken: 1,
+        written: 0,
+    }
+}
+
+// A number with m source bytes behind it.
+fn gather(source: &[u8], from: usize, m: usize, acc: u64) -> u64
+    requires { ⌜ (acc < 2 ^ 8) × ((m ≤ 5) × (from + m ≤ length (now source))) ⌝ }
+    ensures { λ r. ⌜ r ≡ acc * 2 ^ (m * 8) + word (bitAt 8 (at (now (source .entry)))) (from * 8) (m * 8) ⌝ }
+{
+    let mut bits = acc;
+    for i in 0..m {
+        bits = push(bits, source[from + i]);
+    }
+    bits
 }
