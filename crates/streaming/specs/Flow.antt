@@ -1,10 +1,10 @@
 -- Within a call: what the stream's own functions promise each other. Document 01 says nothing of it.
-use Prim.Native.Nat.{ℕ, _+_, _*_, _≤_, _<_}
+use Prim.Native.Nat.{ℕ, _+_, _-_, _*_, _/_, _%_, _^_, _≤_, _<_}
 use mathlib.Core.Path.{_≡_}
 use mathlib.Core.List.{List, _++_}
-use lib.ListN.{length, drop}
+use lib.ListN.{length, take, drop}
 use Rattle.alphabet.specs.Symbols.{Coding}
-use Rattle.bits.specs.Tables.{tabulate}
+use Rattle.bits.specs.Tables.{tabulate, at}
 use Rattle.bits.specs.Streams.{word}
 use Rattle.streaming.specs.Stream.{readsBy, sourceBits, used, basesOf}
 use Rattle.streaming.specs.declared.decoder.StreamingDecoder.{StreamingDecoder}
@@ -34,3 +34,16 @@ pub record Poured (s : StreamingDecoder) (source : List ℕ) (room : ℕ) (f : F
   pub few : f .have < 8
   pub level : Level s source (f .acc) (f .have) (f .taken) (f .written)
   pub all : f .written ≡ basesOf s source room
+
+-- ---- a block of eight bases
+
+-- the symbol of base i, whose code stands in a number of have + b * 8 bits
+abbrev pub blockBase : List ℕ → ℕ → ℕ → ℕ → ℕ → ℕ
+blockBase table bits have b i = at table (bits / 2 ^ (have + b * 8 - (i + 1) * b) % 2 ^ b)
+
+-- memory with m of them from place n on
+abbrev pub withBases : ℕ → List ℕ → ℕ → ℕ → ℕ → ℕ → List ℕ → List ℕ
+withBases m table bits have b n memory = (take n memory ++ tabulate m (blockBase table bits have b)) ++ drop (n + m) memory
+
+unfoldable pub withBlock : List ℕ → ℕ → ℕ → ℕ → ℕ → List ℕ → List ℕ
+withBlock = withBases 8

@@ -1,5 +1,6 @@
 // Within a call: the bits at hand, and the loops that cut bases from them.
 use crate::decoder::StreamingDecoder;
+use crate::shift::code;
 use crate::shift::low;
 use crate::shift::push;
 ghost use mathlib.Core.Bool.{true, _||_};
@@ -10,7 +11,7 @@ ghost use lib.ListN.{length};
 ghost use Rattle.bits.specs.Tables.{at};
 ghost use Rattle.bits.specs.Streams.{bitAt, word};
 ghost use Rattle.streaming.specs.Stream.{soundStream};
-ghost use Rattle.streaming.specs.Flow.{Opened};
+ghost use Rattle.streaming.specs.Flow.{Opened, withBlock};
 
 // `written` bases are written and `taken` source bytes taken; `have` bits, of value `acc`, are taken and not used.
 pub(crate) struct Flow {
@@ -53,4 +54,16 @@ fn gather(source: &[u8], from: usize, m: usize, acc: u64) -> u64
         bits = push(bits, source[from + i]);
     }
     bits
+}
+
+// Eight bases in memory from place n on: those whose codes, b bits wide, stand above the `have` low bits of a number.
+fn spread(table: &[u8; 32], bits: u64, have: usize, b: usize, out: &mut [u8], n: usize)
+    requires { ⌜ (have < 8) × ((b ≤ 5) × (n + 8 ≤ length (now out))) ⌝ }
+    ensures { λ _. ⌜ now (out .exit) ≡ withBlock (now (table .entry)) bits have b n (now (out .entry)) ⌝ }
+{
+    let mut left = have + b * 8;
+    for i in 0..8usize {
+        left -= b;
+        out[n + i] = table[code(bits, left, b)];
+    }
 }
