@@ -10,15 +10,17 @@ use native.Mathlib.Omega.{arith}
 use borrow.Author.Tests.{le-leb, lt-leb}
 use lib.Dec.{leb}
 use lib.ListN.{length, drop, set}
+use lib.Seq.{drop-at, drop-drop}
 use Rattle.alphabet.specs.Symbols.{Coding}
 use Rattle.bits.specs.Tables.{tabulate, at}
 use Rattle.bits.specs.Streams.{bitAt, word}
 use Rattle.bits.specs.Packing.{bytesFor, atHand}
 use Rattle.bits.proofs.Words.{word-add, word-lt, word-high, word-low}
-use Rattle.bits.proofs.Tabulated.{store}
+use Rattle.bits.proofs.Tabulated.{length-tabulate, store}
 use Rattle.streaming.specs.declared.decoder.StreamingDecoder.{StreamingDecoder}
-use Rattle.streaming.specs.Stream.{readsBy, sourceBits, used, takes, basesOf, greatest}
-use Rattle.streaming.specs.Flow.{Level, baseAt, filled}
+use Rattle.streaming.specs.declared.decoder.Streamed.{Streamed}
+use Rattle.streaming.specs.Stream.{readsBy, sourceBits, used, takes, basesOf, greatest, statusOf, moved, movedBy}
+use Rattle.streaming.specs.Flow.{Level, baseAt, filled, answeredBy}
 use Rattle.streaming.proofs.Hand.{hand-lt, hand-head, hand-past, hand-push}
 use Rattle.streaming.proofs.Greatest.{Largest, largest-greatest}
 
@@ -122,6 +124,16 @@ module _ {s : StreamingDecoder} {source : List ℕ} {acc have taken n : ℕ} (r 
   pub level-acc : have < 8 → acc ≡ word S (used s n) (s .bits + takes s n * 8 - used s n)
   level-acc few = r .held ∙ ap (word S (used s n)) (level-have few)
 
+  -- the answer
+  pub level-answer : (room : ℕ) → have < 8 → n ≡ basesOf s source room
+      → answeredBy s (record { acc = acc; have = have; taken = taken; written = n }) room ≡ movedBy s source room (basesOf s source room)
+  unfolding answeredBy movedBy moved
+  level-answer room few e =
+      (λ i.
+      Streamed.Moved (level-takes few i) n (statusOf (s .budget - n) (room - n))
+      (record { alphabet = s .alphabet; skip = 0; budget = s .budget - n; bits = level-have few i; pending = level-acc few i }))
+      ∙ ap (movedBy s source room) e
+
   test : ℕ → Bool
   test m = leb (takes s m) (length source)
 
@@ -150,7 +162,28 @@ module _ {s : StreamingDecoder} {source : List ℕ} {acc have taken n : ℕ} (r 
 
 -- ---- the memory
 
--- one base more
-pub base-store : (s : StreamingDecoder) (source out out₀ : List ℕ) (n v : ℕ) → n < length out₀ → out ≡ filled s source n out₀ → v ≡ baseAt s source n → set out n v ≡ filled s source (n + 1) out₀
-unfolding filled
-base-store s source out out₀ n v h e f = rw (e, add-one n) (store n (baseAt s source) out₀ v h f)
+module _ (s : StreamingDecoder) (source : List ℕ) where
+  abbrev base : ℕ → ℕ
+  base = baseAt s source
+
+  pub fill-none : (out : List ℕ) → out ≡ filled s source 0 out
+  unfolding filled tabulate
+  fill-none out = refl
+
+  -- one base more
+  pub fill-more : (out out₀ : List ℕ) (n v : ℕ) → n < length out₀ → out ≡ filled s source n out₀ → v ≡ baseAt s source n → set out n v ≡ filled s source (n + 1) out₀
+  unfolding filled
+  fill-more out out₀ n v h e f = rw (e, add-one n) (store n base out₀ v h f)
+
+  -- bases written over fewer of them
+  pub fill-over : (out₀ : List ℕ) (m n : ℕ) → m ≤ n → filled s source n (filled s source m out₀) ≡ filled s source n out₀
+  unfolding filled
+  fill-over out₀ m n h =
+      let sum : n ≡ m + (n - m) = omega arith in
+      let part : List ℕ = tabulate m base ++ drop m out₀ in
+      ap (λ (l : List ℕ). tabulate n base ++ l)
+      (ap (λ (k : ℕ). drop k part) sum
+      ∙ sym (drop-drop (n - m) m part)
+      ∙ ap (drop (n - m)) (drop-at (tabulate m base) (drop m out₀) m (length-tabulate m base))
+      ∙ drop-drop (n - m) m out₀
+      ∙ ap (λ (k : ℕ). drop k out₀) (sym sum))

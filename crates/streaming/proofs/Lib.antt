@@ -5,3 +5,4 @@ pub mod Levels
 pub mod Calls
 pub mod Openings
 pub mod Blocks
+pub mod Pumping

@@ -6,8 +6,9 @@ use lib.ListN.{length, take, drop}
 use Rattle.alphabet.specs.Symbols.{Coding}
 use Rattle.bits.specs.Tables.{tabulate, at}
 use Rattle.bits.specs.Streams.{word}
-use Rattle.streaming.specs.Stream.{readsBy, sourceBits, used, basesOf}
+use Rattle.streaming.specs.Stream.{readsBy, sourceBits, used, statusOf}
 use Rattle.streaming.specs.declared.decoder.StreamingDecoder.{StreamingDecoder}
+use Rattle.streaming.specs.declared.decoder.Streamed.{Streamed}
 use Rattle.streaming.specs.declared.flow.Flow.{Flow}
 
 -- base i of a call
@@ -29,11 +30,14 @@ pub record Opened (s : StreamingDecoder) (source : List ℕ) (f : Flow) : Type 0
   pub few : f .have < 8
   pub level : Level s source (f .acc) (f .have) (f .taken) 0
 
--- after the last base: none is left out, and no byte is taken that no base needs
-pub record Poured (s : StreamingDecoder) (source : List ℕ) (room : ℕ) (f : Flow) : Type 0 where
-  pub few : f .have < 8
-  pub level : Level s source (f .acc) (f .have) (f .taken) (f .written)
-  pub all : f .written ≡ basesOf s source room
+-- the answer where the loops of a call end
+unfoldable pub answeredBy : StreamingDecoder → Flow → ℕ → Streamed
+answeredBy s f room =
+    Streamed.Moved
+    (f .taken)
+    (f .written)
+    (statusOf (s .budget - f .written) (room - f .written))
+    (record { alphabet = s .alphabet; skip = 0; budget = s .budget - f .written; bits = f .have; pending = f .acc })
 
 -- ---- a block of eight bases
 

@@ -4,7 +4,7 @@ use alphabet::Named;
 use alphabet::Refusal;
 use alphabet::kind_of_number;
 ghost use mathlib.Core.Path.{_≡_};
-ghost use Rattle.streaming.specs.Stream.{soundStream, startStreamAt, statusOf};
+ghost use Rattle.streaming.specs.Stream.{soundStream, startStreamAt};
 
 // `skip` bits are to be passed over first (0: done, or never due); `budget` bases are to come; `bits` bits, of value `pending`, are taken and not used.
 pub struct StreamingDecoder {
@@ -73,17 +73,4 @@ impl StreamingDecoder {
         }
         self.skip == 0 || self.bits == 0
     }
-}
-
-// The status once the skip is done, from the budget and the space that are left.
-fn status_of(budget: u64, room: usize) -> Status
-    ensures { λ r. ⌜ r ≡ statusOf budget room ⌝ }
-{
-    if budget == 0 {
-        return Status::Done;
-    }
-    if room == 0 {
-        return Status::Full;
-    }
-    Status::Hungry
 }

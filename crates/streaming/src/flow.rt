@@ -1,17 +1,21 @@
 // Within a call: the bits at hand, and the loops that cut bases from them.
+use crate::decoder::Status;
+use crate::decoder::Streamed;
 use crate::decoder::StreamingDecoder;
 use crate::shift::code;
 use crate::shift::low;
 use crate::shift::push;
+use alphabet::decoding_array;
 ghost use mathlib.Core.Bool.{true, _||_};
 ghost use mathlib.Core.Path.{_≡_};
-ghost use Prim.Native.Nat.{_+_, _*_, _^_, _<_, _≤_};
+ghost use Prim.Native.Nat.{_+_, _*_, _^_, _<_, _≤_, min};
 ghost use lib.Dec.{eqb, ltb};
 ghost use lib.ListN.{length};
+ghost use Rattle.alphabet.specs.Symbols.{Coding};
 ghost use Rattle.bits.specs.Tables.{at};
 ghost use Rattle.bits.specs.Streams.{bitAt, word};
-ghost use Rattle.streaming.specs.Stream.{soundStream};
-ghost use Rattle.streaming.specs.Flow.{Opened, withBlock};
+ghost use Rattle.streaming.specs.Stream.{soundStream, readsBy, statusOf, basesOf, movedBy};
+ghost use Rattle.streaming.specs.Flow.{Opened, answeredBy, filled, withBlock};
 
 // `written` bases are written and `taken` source bytes taken; `have` bits, of value `acc`, are taken and not used.
 pub(crate) struct Flow {
@@ -41,6 +45,51 @@ pub(crate) fn opened(s: StreamingDecoder, source: &[u8]) -> Flow
         have,
         taken: 1,
         written: 0,
+    }
+}
+
+// The bases that budget and space allow.
+fn least(budget: u64, room: usize) -> usize
+    ensures { λ r. ⌜ r ≡ min budget room ⌝ }
+{
+    if budget < room as u64 {
+        return budget as usize;
+    }
+    room
+}
+
+// The status once the skip is done, from the budget and the space that are left.
+fn status_of(budget: u64, room: usize) -> Status
+    ensures { λ r. ⌜ r ≡ statusOf budget room ⌝ }
+{
+    if budget == 0 {
+        return Status::Done;
+    }
+    if room == 0 {
+        return Status::Full;
+    }
+    Status::Hungry
+}
+
+// The answer where the loops of a call end, with output memory for `room` bases.
+fn answered(s: StreamingDecoder, f: Flow, room: usize) -> Streamed
+    requires { ⌜ (f .written ≤ min (s .budget) room) × ((f .have < 8) × (f .acc < 2 ^ 8)) ⌝ }
+    ensures { λ r. ⌜ r ≡ answeredBy s f room ⌝ }
+{
+    let kind = s.alphabet;
+    let budget = s.budget - f.written as u64;
+    let status = status_of(budget, room - f.written);
+    Streamed::Moved {
+        taken: f.taken,
+        written: f.written,
+        status,
+        next: StreamingDecoder {
+            alphabet: kind,
+            skip: 0,
+            budget,
+            bits: f.have as u8,
+            pending: f.acc as u8,
+        },
     }
 }
 

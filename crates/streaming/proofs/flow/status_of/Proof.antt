@@ -1,6 +1,6 @@
 use borrow.Author.Tests.{eq-eqb, ne-eqb}
-use Rattle.streaming.proofs.decoder.status_of.Statement.{statement}
-use Rattle.streaming.proofs.decoder.status_of.Tie as tie
+use Rattle.streaming.proofs.flow.status_of.Statement.{statement}
+use Rattle.streaming.proofs.flow.status_of.Tie as tie
 
 returns : tie.Need-returns
 returns c = simp (eq-eqb (c .before .args .budget) 0 (c .if1 .taken))
