@@ -160,6 +160,10 @@ module _ {s : StreamingDecoder} {source : List ℕ} {acc have taken n : ℕ} (r 
             lt-leb (takes s i) (length source) (omega (arith, up, used-add s n 1, one-mul b, r .place));
       })
 
+-- the same level under other names
+pub level-same : {s : StreamingDecoder} {source : List ℕ} {acc acc′ have have′ taken taken′ n : ℕ} → Level s source acc have taken n → acc′ ≡ acc → have′ ≡ have → taken′ ≡ taken → Level s source acc′ have′ taken′ n
+level-same r e f g = rw (e, f, g) r
+
 -- ---- the memory
 
 module _ (s : StreamingDecoder) (source : List ℕ) where

@@ -116,3 +116,51 @@ fn spread(table: &[u8; 32], bits: u64, have: usize, b: usize, out: &mut [u8], n:
         out[n + i] = table[code(bits, left, b)];
     }
 }
+
+// The bases of a packed alphabet. Eight bases use the bits of as many bytes as a base has bits, so a block leaves as many bits
+// at hand as it found; then a byte is taken only for a base that is due, has space and lacks bits.
+pub(crate) fn pump(s: StreamingDecoder, source: &[u8], start: Flow, out: &mut [u8]) -> Streamed
+    requires { ⌜ ((readsBy s .width ≤ 5) × (s .bits < 8)) × Opened s (now source) start ⌝ }
+    ensures { λ r. ⌜ r ≡ movedBy s (now (source .entry)) (length (now (out .entry))) (basesOf s (now (source .entry)) (length (now (out .entry)))) ⌝ }
+    ensures { λ _. ⌜ now (out .exit) ≡ filled s (now (source .entry)) (basesOf s (now (source .entry)) (length (now (out .entry)))) (now (out .entry)) ⌝ }
+{
+    let kind = s.alphabet;
+    let b = kind.bits_per_symbol();
+    let table = decoding_array(kind);
+    let limit = least(s.budget, out.len());
+    let mut acc = start.acc;
+    let mut have = start.have;
+    let mut taken = start.taken;
+    let mut n = 0;
+    while 8 <= limit - n {
+        if source.len() - taken < b {
+            break;
+        }
+        let bits = gather(source, taken, b, acc);
+        spread(&table, bits, have, b, out, n);
+        acc = low(bits, have);
+        taken += b;
+        n += 8;
+    }
+    while n < limit {
+        if have < b {
+            if taken == source.len() {
+                break;
+            }
+            acc = push(acc, source[taken]);
+            taken += 1;
+            have += 8;
+        }
+        have -= b;
+        out[n] = table[code(acc, have, b)];
+        acc = low(acc, have);
+        n += 1;
+    }
+    let end = Flow {
+        acc,
+        have,
+        taken,
+        written: n,
+    };
+    answered(s, end, out.len())
+}
