@@ -6,3 +6,4 @@ pub mod Calls
 pub mod Openings
 pub mod Blocks
 pub mod Pumping
+pub mod Carrying

@@ -5,10 +5,11 @@ use crate::decoder::StreamingDecoder;
 use crate::shift::code;
 use crate::shift::low;
 use crate::shift::push;
+use crate::shift::top;
 use alphabet::decoding_array;
 ghost use mathlib.Core.Bool.{true, _||_};
 ghost use mathlib.Core.Path.{_≡_};
-ghost use Prim.Native.Nat.{_+_, _*_, _^_, _<_, _≤_, min};
+ghost use Prim.Native.Nat.{ℕ, _+_, _*_, _^_, _<_, _≤_, min};
 ghost use lib.Dec.{eqb, ltb};
 ghost use lib.ListN.{length};
 ghost use Rattle.alphabet.specs.Symbols.{Coding};
@@ -161,6 +162,31 @@ pub(crate) fn pump(s: StreamingDecoder, source: &[u8], start: Flow, out: &mut [u
         have,
         taken,
         written: n,
+    };
+    answered(s, end, out.len())
+}
+
+// The bases of an alphabet of whole bytes. Each base takes a byte, so as many bits stay at hand.
+pub(crate) fn carry(s: StreamingDecoder, source: &[u8], start: Flow, out: &mut [u8]) -> Streamed
+    requires { ⌜ ((readsBy s .width ≡ 8) × ((c : ℕ) → readsBy s .symbol c ≡ c)) × ((s .bits < 8) × Opened s (now source) start) ⌝ }
+    ensures { λ r. ⌜ r ≡ movedBy s (now (source .entry)) (length (now (out .entry))) (basesOf s (now (source .entry)) (length (now (out .entry)))) ⌝ }
+    ensures { λ _. ⌜ now (out .exit) ≡ filled s (now (source .entry)) (basesOf s (now (source .entry)) (length (now (out .entry)))) (now (out .entry)) ⌝ }
+{
+    let have = start.have;
+    let from = start.taken;
+    let limit = least(s.budget, out.len());
+    let count = least(limit as u64, source.len() - from);
+    let mut acc = start.acc;
+    for n in 0..count {
+        let bits = push(acc, source[from + n]);
+        out[n] = top(bits, have);
+        acc = low(bits, have);
+    }
+    let end = Flow {
+        acc,
+        have,
+        taken: from + count,
+        written: count,
     };
     answered(s, end, out.len())
 }

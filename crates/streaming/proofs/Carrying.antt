@@ -1,0 +1,49 @@
+-- The turns of `carry`, for an alphabet of whole bytes.
+use mathlib.Core.Path.{_≡_, sym, ap, ap₂, _∙_}
+use mathlib.Core.List.{List}
+use Prim.Native.Nat.{ℕ, _+_, _-_, _*_, _/_, _%_, _^_, _≤_, _<_, min}
+use native.Mathlib.Nat.{add-zero, add-comm, one-mul}
+use native.Mathlib.Decide.{decLt}
+use native.Mathlib.Omega.{arith}
+use lib.ListN.{length}
+use lib.Pow.{shr-mod}
+use Rattle.alphabet.specs.Symbols.{Coding}
+use Rattle.bits.specs.Streams.{word}
+use Rattle.streaming.specs.declared.decoder.StreamingDecoder.{StreamingDecoder}
+use Rattle.streaming.specs.Stream.{readsBy, sourceBits, used, basesOf}
+use Rattle.streaming.specs.Flow.{Level, baseAt}
+use Rattle.streaming.proofs.Levels.{level-lt, level-field, level-drop, level-all, level-dry}
+
+module _ (s : StreamingDecoder) (source : List ℕ) (eight : readsBy s .width ≡ 8) where
+  abbrev W : ℕ
+  W = readsBy s .width
+
+  module _ {bits taken n : ℕ} (have : ℕ) (r : Level s source bits (have + 8) taken n) where
+    pub carry-lt : bits < 2 ^ (8 + have)
+    carry-lt = rw (add-comm 8 have) (level-lt r)
+
+    -- the byte above the bits that stay is the next base
+    pub carry-base : ((c : ℕ) → readsBy s .symbol c ≡ c) → {v : ℕ} → v ≡ bits / 2 ^ have → v ≡ baseAt s source n
+    unfolding baseAt
+    carry-base same e =
+        let left : have ≡ have + 8 - (0 + 1) * W = omega (arith, one-mul W) in
+        e
+        ∙ sym (shr-mod 8 have carry-lt)
+        ∙ ap₂ (λ (x y : ℕ). bits / 2 ^ x % 2 ^ y) left (sym eight)
+        ∙ level-field r 0 (omega (arith, one-mul W))
+        ∙ ap (λ (k : ℕ). word (sourceBits s source) (used s k) W) (add-zero n)
+        ∙ sym (same (word (sourceBits s source) (used s n) W))
+
+    -- and cut off
+    pub carry-level : {acc : ℕ} → acc ≡ bits % 2 ^ have → Level s source acc have taken (n + 1)
+    carry-level e =
+        let left : have + 8 - 1 * W ≡ have = omega (arith, one-mul W) in
+        rw left at (level-drop r 1 (omega (arith, one-mul W)) (e ∙ ap (λ (x : ℕ). bits % 2 ^ x) (sym left)))
+
+  -- the count is the greatest: all that is allowed, or all that the source has bytes for
+  pub carry-count : {acc have n : ℕ} (from limit room : ℕ) → s .bits < 8 → have < 8 → Level s source acc have (from + n) n → limit ≡ min (s .budget) room → n ≡ min limit (length source - from) → n ≡ basesOf s source room
+  carry-count {acc} {have} {n} from limit room small few r e f = go (decLt n limit)
+    where
+      go : Dec (n < limit) → n ≡ basesOf s source room
+      go (yes l) = level-dry r room small few (omega arith) (omega (arith, r .within)) (omega arith)
+      go (no l) = level-all r room few (omega arith)
