@@ -11,7 +11,9 @@ use Rattle.alphabet.specs.declared.kind.AlphabetType.{AlphabetType}
 use Rattle.alphabet.specs.declared.kind.Named.{Named}
 use Rattle.alphabet.specs.declared.refusal.Refusal.{Refusal}
 use Rattle.alphabet.specs.Questions.{ask_else_then_, by}
+use Rattle.alphabet.specs.Symbols.{Coding, coding}
 use Rattle.alphabet.specs.Names.{known, kindOf, namedAt}
+use Rattle.alphabet.proofs.Laws.{Packed, Plain, shape}
 use Rattle.streaming.specs.declared.decoder.StreamingDecoder.{StreamingDecoder}
 use Rattle.streaming.specs.declared.decoder.StreamStarted.{StreamStarted}
 use Rattle.streaming.specs.Stream.{freshStream, soundStream, startStreamAt}
@@ -92,3 +94,22 @@ module _ (alphabet skip budget : ℕ) where
   start-fresh k e h =
       rw (named-kind (known alphabet) k e .0, lt-ltb skip 8 h)
       (ap (λ (x : AlphabetType). StreamStarted.Fresh (freshStream x skip budget)) (named-kind (known alphabet) k e .1))
+
+-- ---- the two shapes of alphabets
+
+module _ (k : AlphabetType) where
+  -- where a base has eight bits it is a byte as it stands
+  pub plain-of-eight : coding k .width ≡ 8 → (c : ℕ) → coding k .symbol c ≡ c
+  plain-of-eight e c = go (shape k)
+    where
+      go : Packed (coding k) ⊎ Plain (coding k) → coding k .symbol c ≡ c
+      go (inl p) = absurd (omega (arith, p .five))
+      go (inr p) = p .same-symbol c
+
+  -- and else it has at most five
+  pub packed-else : (coding k .width ≡ 8 → ⊥) → coding k .width ≤ 5
+  packed-else h = go (shape k)
+    where
+      go : Packed (coding k) ⊎ Plain (coding k) → coding k .width ≤ 5
+      go (inl p) = p .five
+      go (inr p) = absurd (h (p .eight))

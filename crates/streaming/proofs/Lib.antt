@@ -7,3 +7,4 @@ pub mod Openings
 pub mod Blocks
 pub mod Pumping
 pub mod Carrying
+pub mod Memory

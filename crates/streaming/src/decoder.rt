@@ -1,10 +1,16 @@
 // The stream's state and calls.
+use crate::flow::carry;
+use crate::flow::opened;
+use crate::flow::pump;
 use alphabet::AlphabetType;
 use alphabet::Named;
 use alphabet::Refusal;
 use alphabet::kind_of_number;
+ghost use mathlib.Core.Bool.{_||_};
 ghost use mathlib.Core.Path.{_≡_};
-ghost use Rattle.streaming.specs.Stream.{soundStream, startStreamAt};
+ghost use lib.Dec.{eqb, ltb};
+ghost use lib.ListN.{length};
+ghost use Rattle.streaming.specs.Stream.{soundStream, startStreamAt, streamAt, streamMemory};
 
 // `skip` bits are to be passed over first (0: done, or never due); `budget` bases are to come; `bits` bits, of value `pending`, are taken and not used.
 pub struct StreamingDecoder {
@@ -72,5 +78,36 @@ impl StreamingDecoder {
             return false;
         }
         self.skip == 0 || self.bits == 0
+    }
+
+    // With the skip due one byte is needed first.
+    fn can_begin(self, given: usize) -> bool
+        ensures { λ r. ⌜ r ≡ eqb (self .skip) 0 || ltb 0 given ⌝ }
+    {
+        self.skip == 0 || 0 < given
+    }
+
+    // The bases that the source's bytes give, at the front of the memory; an unsound state is refused by 1 and comes back as it was.
+    pub fn read(self, source: &[u8], out: &mut [u8]) -> Streamed
+        ensures { λ r. ⌜ r ≡ streamAt self (now (source .entry)) (length (now (out .entry))) ⌝ }
+        ensures { λ _. ⌜ now (out .exit) ≡ streamMemory self (now (source .entry)) (now (out .entry)) ⌝ }
+    {
+        if !self.is_sound() {
+            return Streamed::Refused(Refusal::Unsound, self);
+        }
+        if !self.can_begin(source.len()) {
+            return Streamed::Moved {
+                taken: 0,
+                written: 0,
+                status: Status::Hungry,
+                next: self,
+            };
+        }
+        let start = opened(self, source);
+        let kind = self.alphabet;
+        if kind.bits_per_symbol() == 8 {
+            return carry(self, source, start, out);
+        }
+        pump(self, source, start, out)
     }
 }
