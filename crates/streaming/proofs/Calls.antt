@@ -24,7 +24,7 @@ and-true : (x y : Bool) → x && y ≡ true → (x ≡ true) × (y ≡ true)
 and-true true y e = (refl, e)
 and-true false y e = absurd (let z : _≡_ {A = ℕ} 0 1 = cc in omega arith)
 
-or-true : (x y : Bool) → x || y ≡ true → (x ≡ true) ⊎ (y ≡ true)
+pub or-true : (x y : Bool) → x || y ≡ true → (x ≡ true) ⊎ (y ≡ true)
 or-true true y e = inl refl
 or-true false y e = inr e
 

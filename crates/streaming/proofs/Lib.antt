@@ -8,3 +8,4 @@ pub mod Blocks
 pub mod Pumping
 pub mod Carrying
 pub mod Memory
+pub mod Counted

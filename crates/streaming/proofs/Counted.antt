@@ -1,0 +1,98 @@
+-- The bases of a call: the largest number, as document 01 says, and its closed form.
+use mathlib.Core.Path.{_≡_, refl, sym, ap, _∙_}
+use mathlib.Core.Bool.{Bool, true, false, _||_}
+use mathlib.Core.List.{List}
+use mathlib.Core.Logic.{_⊎_, inl, inr}
+use Prim.Native.Nat.{ℕ, _+_, _-_, _*_, _/_, _≤_, _<_, min}
+use native.Mathlib.Nat.{le-div-iff-mul-le, mul-le-mul-right, zero-mul}
+use native.Mathlib.Decide.{decLt}
+use native.Mathlib.Omega.{arith}
+use borrow.Author.Tests.{leb-true, leb-false, le-leb, lt-leb, eqb-true, ltb-true}
+use lib.Dec.{leb, eqb, ltb}
+use lib.ListN.{length}
+use Rattle.alphabet.specs.Symbols.{Coding}
+use Rattle.alphabet.proofs.Laws.{lawful}
+use Rattle.bits.specs.Packing.{bytesFor}
+use Rattle.streaming.specs.declared.decoder.StreamingDecoder.{StreamingDecoder}
+use Rattle.streaming.specs.Stream.{readsBy, soundStream, used, takes, basesOf, greatest}
+use Rattle.streaming.proofs.Greatest.{Largest, greatest-largest, largest-greatest}
+use Rattle.streaming.proofs.Levels.{used-none, takes-mono}
+use Rattle.streaming.proofs.Calls.{Sound, sound-facts, or-true}
+
+-- n bases: no more than budget and space allow and the source's bytes suffice for, and no number that is larger
+pub record Most (s : StreamingDecoder) (source : List ℕ) (room n : ℕ) : Type 0 where
+  pub due : n ≤ s .budget
+  pub fits : n ≤ room
+  pub suffices : takes s n ≤ length source
+  pub most : (m : ℕ) → m ≤ s .budget → m ≤ room → takes s m ≤ length source → m ≤ n
+
+module _ (s : StreamingDecoder) (source : List ℕ) (room : ℕ) (sound : soundStream s ≡ true) (begins : eqb (s .skip) 0 || ltb 0 (length source) ≡ true) where
+  test : ℕ → Bool
+  test n = leb (takes s n) (length source)
+
+  bound : ℕ
+  bound = min (s .budget) room
+
+  largest : Largest test bound (basesOf s source room)
+  unfolding basesOf test bound
+  largest = greatest-largest test bound
+
+  -- the skip's bits are at hand
+  pub enough : s .skip ≤ s .bits + length source * 8
+  enough = go (or-true (eqb (s .skip) 0) (ltb 0 (length source)) begins)
+    where
+      go : (eqb (s .skip) 0 ≡ true) ⊎ (ltb 0 (length source) ≡ true) → s .skip ≤ s .bits + length source * 8
+      go (inl z) = omega (arith, eqb-true (s .skip) 0 z)
+      go (inr z) = omega (arith, ltb-true 0 (length source) z, sound-facts s sound .skips)
+
+  pub none-suffices : takes s 0 ≤ length source
+  unfolding takes
+  none-suffices = omega (arith, used-none s, enough)
+
+  -- the largest number
+  pub bases-most : Most s source room (basesOf s source room)
+  unfolding test bound
+  bases-most =
+      record {
+        due = omega (arith, largest .within);
+        fits = omega (arith, largest .within);
+        suffices = go (largest .passes);
+        most = λ m a b c. over m a b c (decLt (basesOf s source room) m);
+      }
+    where
+      go : (basesOf s source room ≡ 0) ⊎ (test (basesOf s source room) ≡ true) → takes s (basesOf s source room) ≤ length source
+      go (inl z) = rw z none-suffices
+      go (inr z) = leb-true (takes s (basesOf s source room)) (length source) z
+
+      over : (m : ℕ) → m ≤ s .budget → m ≤ room → takes s m ≤ length source → Dec (basesOf s source room < m) → m ≤ basesOf s source room
+      over m a b c (yes l) = absurd (omega (arith, leb-false (takes s m) (length source) (largest .beyond m l (omega arith))))
+      over m a b c (no l) = omega arith
+
+  -- and there is one such number only
+  pub most-only : (n : ℕ) → Most s source room n → n ≡ basesOf s source room
+  most-only n r =
+      let least : basesOf s source room ≤ n = r .most (basesOf s source room) (bases-most .due) (bases-most .fits) (bases-most .suffices) in
+      let back : n ≤ basesOf s source room = bases-most .most n (r .due) (r .fits) (r .suffices) in
+      omega arith
+
+  -- its closed form: what budget and space allow, and the bits at hand past the skip, by the width
+  pub bases-closed : basesOf s source room ≡ min (min (s .budget) room) ((s .bits + length source * 8 - s .skip) / readsBy s .width)
+  unfolding takes used
+  bases-closed = sym (most-only n (record { due = omega arith; fits = omega arith; suffices = omega (arith, enough, fills); most = λ m a b c. least m a b c }))
+    where
+      W : ℕ
+      W = readsBy s .width
+
+      avail : ℕ
+      avail = s .bits + length source * 8 - s .skip
+
+      n : ℕ
+      n = min (min (s .budget) room) (avail / W)
+
+      fills : n * W ≤ avail
+      fills = le-div-iff-mul-le {k = W} {x = n} {y = avail} (lawful (s .alphabet) .some-bits) .0 (omega arith)
+
+      least : (m : ℕ) → m ≤ s .budget → m ≤ room → takes s m ≤ length source → m ≤ n
+      least m a b c =
+          let part : m ≤ avail / W = le-div-iff-mul-le {k = W} {x = m} {y = avail} (lawful (s .alphabet) .some-bits) .1 (omega arith) in
+          omega arith
