@@ -9,3 +9,4 @@ pub mod Pumping
 pub mod Carrying
 pub mod Memory
 pub mod Counted
+pub mod Feeding
