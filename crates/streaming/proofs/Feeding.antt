@@ -318,3 +318,54 @@ module _ (kind : AlphabetType) (q budget : ℕ) (lent : List ℕ) where
       same : movedBy s source room n₁ ≡ Streamed.Moved (bytesFor (upTo next) - taken) (next - p .k) (statusOf (budget - next) (room - (next - p .k))) (flowing kind q budget lent next)
       same = λ i.
           Streamed.Moved (bytes i) (count i) (statusOf (budgets i) (room - count i)) ((moved-is room r ∙ ap (flowing kind q budget lent) all) i)
+
+  fresh-due : 0 < q → eqb (freshStream kind q budget .skip) 0 ≡ false
+  unfolding freshStream
+  fresh-due due = ne-eqb q 0 (omega arith)
+
+  flowing-skip : (k m : ℕ) → eqb (flowing kind q budget lent k .skip) 0 || ltb 0 (length (sourceOf lent (bytesFor (upTo k)) m)) ≡ true
+  unfolding flowing
+  flowing-skip k m = refl
+
+  -- a call with the skip due and nothing offered
+  goes-waits : (m room : ℕ) → q < 8 → 0 < q → length (sourceOf lent 0 m) ≡ 0 → Goes (record { due = true; k = 0 }) m room (record { due = true; k = 0 })
+  unfolding streamAt streamWrites standsFor takenBy basesBetween cut tabulate
+  goes-waits m room small due none =
+      record {
+        answer = told;
+        wrote = ap (streamWrites (freshStream kind q budget) (sourceOf lent 0 m)) told;
+        grows = (omega arith, omega arith);
+        reach = record { start = λ z. (refl, due); within = omega arith };
+      }
+    where
+      asks : eqb (freshStream kind q budget .skip) 0 || ltb 0 (length (sourceOf lent 0 m)) ≡ false
+      asks = ap₂ (λ (x y : Bool). x || y) (fresh-due due) (le-ltb 0 (length (sourceOf lent 0 m)) (omega arith))
+
+      told : streamAt (freshStream kind q budget) (sourceOf lent 0 m) room ≡ Streamed.Moved 0 0 Hungry (freshStream kind q budget)
+      told = rw (sound-fresh small, asks)
+
+  goes-due : (m room : ℕ) → q < 8 → 0 < q → (b : Bool) → ltb 0 (length (sourceOf lent 0 m)) ≡ b → Goes (record { due = true; k = 0 }) m room (placeAfter A q budget lent (record { due = true; k = 0 }) m room)
+  unfolding placeAfter offered takenBy standsFor
+  goes-due m room small due true e =
+      let some : 0 < length (sourceOf lent 0 m) = ltb-true 0 (length (sourceOf lent 0 m)) e in
+      let offers : ltb 0 (0 + length (sourceOf lent 0 m)) ≡ true = lt-ltb 0 (0 + length (sourceOf lent 0 m)) (omega arith) in
+      rw offers
+      (goes-on (record { due = true; k = 0 }) m room 0 (within-fresh m small some) (sound-fresh small) (rw e (or-right (eqb (freshStream kind q budget .skip) 0))))
+    where
+      or-right : (x : Bool) → x || true ≡ true
+      or-right true = refl
+      or-right false = refl
+  goes-due m room small due false e =
+      let none : length (sourceOf lent 0 m) ≤ 0 = ltb-false 0 (length (sourceOf lent 0 m)) e in
+      let offers : ltb 0 (0 + length (sourceOf lent 0 m)) ≡ false = le-ltb 0 (0 + length (sourceOf lent 0 m)) (omega arith) in
+      rw offers (goes-waits m room small due (omega arith))
+
+  -- THE CALL: from any place that a list can reach, to the place that the count gives
+  goes-from : (d : Bool) (k m room : ℕ) → q < 8 → Reachable (record { due = d; k = k }) → Goes (record { due = d; k = k }) m room (placeAfter A q budget lent (record { due = d; k = k }) m room)
+  unfolding placeAfter standsFor takenBy
+  goes-from true k m room small g =
+      rw (g .start refl .0) (goes-due m room small (g .start refl .1) (ltb 0 (length (sourceOf lent 0 m))) refl)
+  goes-from false k m room small g = goes-on (record { due = false; k = k }) m room (upTo k) (within-flowing k m (g .within)) (sound-flowing k) (flowing-skip k m)
+
+  pub goes : (p : Place) (m room : ℕ) → q < 8 → Reachable p → Goes p m room (placeAfter A q budget lent p m room)
+  goes p m room small g = goes-from (p .due) (p .k) m room small g
