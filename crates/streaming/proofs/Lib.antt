@@ -10,3 +10,4 @@ pub mod Carrying
 pub mod Memory
 pub mod Counted
 pub mod Feeding
+pub mod AllCalls
