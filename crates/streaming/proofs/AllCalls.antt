@@ -51,15 +51,15 @@ module _ (kind : AlphabetType) (q budget : ℕ) (lent : List ℕ) where
   -- one call more
   fed-more : q < 8 → (p : Place) (c : Feed) → Reachable kind q budget lent p → fedBy lent (fedAt kind q budget lent p) c ≡ fedAt kind q budget lent (placeAfter A q budget lent p (c .given) (c .room))
   unfolding fedBy fedAt
-  fed-more small p c g = λ i. 
+  fed-more small p c g = λ i.
       record {
         state = ap nextBy (r .answer) i;
         taken = (ap (λ (x : Streamed). takenBy A q p + tookBy x) (r .answer) ∙ sum) i;
         bases =
             (ap (λ (l : List ℕ). basesBetween A q budget lent 0 (p .k) ++ l) (r .wrote)
-                ∙ bases-join (p .k) (next .k - p .k)
-                ∙ ap (basesBetween A q budget lent 0) count)
-                i;
+            ∙ bases-join (p .k) (next .k - p .k)
+            ∙ ap (basesBetween A q budget lent 0) count)
+            i;
       }
     where
       next : Place

@@ -124,12 +124,13 @@ module _ {s : StreamingDecoder} {source : List ℕ} {acc have taken n : ℕ} (r 
   pub level-acc : have < 8 → acc ≡ word S (used s n) (s .bits + takes s n * 8 - used s n)
   level-acc few = r .held ∙ ap (word S (used s n)) (level-have few)
 
-  -- the answer
-  pub level-answer : (room : ℕ) → have < 8 → n ≡ basesOf s source room
-      → answeredBy s (record { acc = acc; have = have; taken = taken; written = n }) room ≡ movedBy s source room (basesOf s source room)
+  -- the answer, given with the memory's length under another name
+  pub level-answer : {r : Streamed} {length′ : ℕ} (room : ℕ) → have < 8 → n ≡ basesOf s source room → r ≡ answeredBy s acc have taken n length′ → length′ ≡ room → r ≡ movedBy s source room (basesOf s source room)
   unfolding answeredBy movedBy moved
-  level-answer room few e =
-      (λ i.
+  level-answer {r = answer} room few e f g =
+      f
+      ∙ ap (answeredBy s acc have taken n) g
+      ∙ (λ i.
       Streamed.Moved (level-takes few i) n (statusOf (s .budget - n) (room - n))
       (record { alphabet = s .alphabet; skip = 0; budget = s .budget - n; bits = level-have few i; pending = level-acc few i }))
       ∙ ap (movedBy s source room) e

@@ -85,8 +85,8 @@ module _ (lent : List ℕ) where
         taken = f .taken + tookBy (streamAt (f .state) (sourceOf lent (f .taken) (c .given)) (c .room));
         bases =
             f .bases
-                ++ streamWrites (f .state) (sourceOf lent (f .taken) (c .given))
-                (streamAt (f .state) (sourceOf lent (f .taken) (c .given)) (c .room));
+            ++ streamWrites (f .state) (sourceOf lent (f .taken) (c .given))
+            (streamAt (f .state) (sourceOf lent (f .taken) (c .given)) (c .room));
       }
 
   unfoldable pub fedAll : Fed → List Feed → Fed

@@ -30,14 +30,11 @@ pub record Opened (s : StreamingDecoder) (source : List ℕ) (f : Flow) : Type 0
   pub few : f .have < 8
   pub level : Level s source (f .acc) (f .have) (f .taken) 0
 
--- the answer where the loops of a call end
-unfoldable pub answeredBy : StreamingDecoder → Flow → ℕ → Streamed
-answeredBy s f room =
-    Streamed.Moved
-    (f .taken)
-    (f .written)
-    (statusOf (s .budget - f .written) (room - f .written))
-    (record { alphabet = s .alphabet; skip = 0; budget = s .budget - f .written; bits = f .have; pending = f .acc })
+-- the answer where the loops of a call end, with n bases written and output memory for `room`
+unfoldable pub answeredBy : StreamingDecoder → ℕ → ℕ → ℕ → ℕ → ℕ → Streamed
+answeredBy s acc have taken n room =
+    Streamed.Moved taken n (statusOf (s .budget - n) (room - n))
+    (record { alphabet = s .alphabet; skip = 0; budget = s .budget - n; bits = have; pending = acc })
 
 -- ---- a block of eight bases
 

@@ -18,12 +18,11 @@ ghost use Rattle.bits.specs.Streams.{bitAt, word};
 ghost use Rattle.streaming.specs.Stream.{soundStream, readsBy, statusOf, basesOf, movedBy};
 ghost use Rattle.streaming.specs.Flow.{Opened, answeredBy, filled, withBlock};
 
-// `written` bases are written and `taken` source bytes taken; `have` bits, of value `acc`, are taken and not used.
+// `taken` source bytes are taken; `have` bits, of value `acc`, are taken and not used.
 pub(crate) struct Flow {
     pub acc: u64,
     pub have: usize,
     pub taken: usize,
-    pub written: usize,
 }
 
 // The bits at hand before the first base: those that pend or, with the skip due, those of the first byte that the skip leaves.
@@ -37,7 +36,6 @@ pub(crate) fn opened(s: StreamingDecoder, source: &[u8]) -> Flow
             acc: s.pending as u64,
             have: s.bits as usize,
             taken: 0,
-            written: 0,
         };
     }
     let have = 8 - skip;
@@ -45,7 +43,6 @@ pub(crate) fn opened(s: StreamingDecoder, source: &[u8]) -> Flow
         acc: low(source[0] as u64, have),
         have,
         taken: 1,
-        written: 0,
     }
 }
 
@@ -72,24 +69,30 @@ fn status_of(budget: u64, room: usize) -> Status
     Status::Hungry
 }
 
-// The answer where the loops of a call end, with output memory for `room` bases.
-fn answered(s: StreamingDecoder, f: Flow, room: usize) -> Streamed
-    requires { ⌜ (f .written ≤ min (s .budget) room) × ((f .have < 8) × (f .acc < 2 ^ 8)) ⌝ }
-    ensures { λ r. ⌜ r ≡ answeredBy s f room ⌝ }
+// The answer where the loops of a call end: n bases written, and output memory for `room`.
+fn answered(
+    s: StreamingDecoder,
+    acc: u64,
+    have: usize,
+    taken: usize,
+    n: usize,
+    room: usize,
+) -> Streamed
+    requires { ⌜ (n ≤ min (s .budget) room) × ((have < 8) × (acc < 2 ^ 8)) ⌝ }
+    ensures { λ r. ⌜ r ≡ answeredBy s acc have taken n room ⌝ }
 {
     let kind = s.alphabet;
-    let budget = s.budget - f.written as u64;
-    let status = status_of(budget, room - f.written);
+    let budget = s.budget - n as u64;
     Streamed::Moved {
-        taken: f.taken,
-        written: f.written,
-        status,
+        taken,
+        written: n,
+        status: status_of(budget, room - n),
         next: StreamingDecoder {
             alphabet: kind,
             skip: 0,
             budget,
-            bits: f.have as u8,
-            pending: f.acc as u8,
+            bits: have as u8,
+            pending: acc as u8,
         },
     }
 }
@@ -157,13 +160,7 @@ pub(crate) fn pump(s: StreamingDecoder, source: &[u8], start: Flow, out: &mut [u
         acc = low(acc, have);
         n += 1;
     }
-    let end = Flow {
-        acc,
-        have,
-        taken,
-        written: n,
-    };
-    answered(s, end, out.len())
+    answered(s, acc, have, taken, n, out.len())
 }
 
 // The bases of an alphabet of whole bytes. Each base takes a byte, so as many bits stay at hand.
@@ -182,11 +179,6 @@ pub(crate) fn carry(s: StreamingDecoder, source: &[u8], start: Flow, out: &mut [
         out[n] = top(bits, have);
         acc = low(bits, have);
     }
-    let end = Flow {
-        acc,
-        have,
-        taken: from + count,
-        written: count,
-    };
-    answered(s, end, out.len())
+    let taken = from + count;
+    answered(s, acc, have, taken, count, out.len())
 }

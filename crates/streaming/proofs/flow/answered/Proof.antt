@@ -16,21 +16,18 @@ sub-status-of c = search needs
 status-of-requires : tie.Need-status-of-requires
 status-of-requires c κs = search needs
 
-cast-t9 : tie.Need-cast-t9
-cast-t9 c = search needs
+cast-t12 : tie.Need-cast-t12
+cast-t12 c = search needs
 
-cast-t10 : tie.Need-cast-t10
-cast-t10 c = search needs
+cast-t13 : tie.Need-cast-t13
+cast-t13 c = search needs
 
 returns : tie.Need-returns
 unfolding answeredBy
 returns c =
-    let call = c .before .before in
-    let a = call .before .before .before .args in
-    let f = a .f in
-    ap (λ (x : Status). Streamed.Moved (f .taken) (f .written) x (record { alphabet = a .s .alphabet; skip = 0; budget = a .s .budget - f .written; bits = f .have; pending = f .acc })) (call .status-of .ensures)
+    let a = c .before .before .args in
+    ap (λ (x : Status). Streamed.Moved (a .taken) (a .n) x (record { alphabet = a .s .alphabet; skip = 0; budget = a .s .budget - a .n; bits = a .have; pending = a .acc })) (c .status-of .ensures)
 
 pub answered-spec : {M : Type 1} → statement M
 answered-spec =
-    tie.close
-    (tie.spec sub-budget sub-status-of status-of-requires cast-t9 cast-t10 returns)
+    tie.close (tie.spec sub-budget sub-status-of status-of-requires cast-t12 cast-t13 returns)

@@ -8,7 +8,7 @@ use lib.ListN.{length, length-set}
 use lib.Pow.{pow-mono}
 use Rattle.streaming.specs.declared.decoder.StreamingDecoder.{StreamingDecoder}
 use Rattle.streaming.specs.Stream.{basesOf}
-use Rattle.streaming.specs.Flow.{Level, filled, answeredBy}
+use Rattle.streaming.specs.Flow.{Level, filled}
 use Rattle.streaming.proofs.Levels.{level-lt, level-fill, level-same, level-answer, fill-none, fill-more}
 use Rattle.streaming.proofs.Carrying.{carry-lt, carry-base, carry-level, carry-count}
 use Rattle.streaming.proofs.flow.carry.Statement.{statement}
@@ -127,8 +127,8 @@ loop-again c =
       simp length-set (inv .3),
     )
 
-add-t13 : tie.Need-add-t13 Inv-loop μ-loop
-add-t13 c = let l = c .before in omega (arith, count l, start l .pre .1 .1 .level .within, start l .good)
+add-taken : tie.Need-add-taken Inv-loop μ-loop
+add-taken c = let l = c .before in omega (arith, count l, start l .pre .1 .1 .level .within, start l .good)
 
 -- all of them are written
 done : (c : tie.After-loop Inv-loop μ-loop) → c .before .loop .n ≡ c .before .before .least2 .result
@@ -157,7 +157,7 @@ returns c =
     let inv = l .loop .inv in
     let all =
     carry-count s source (start l .pre .0 .0) (start l .args .start .taken) (l .before .before .least .result) (length (memory l)) (start l .pre .1 .0) (few l) (level (c .before)) (limit l) (count l) in (
-      c .answered .ensures ∙ ap (answeredBy s _) (inv .3) ∙ level-answer (level (c .before)) (length (memory l)) (few l) all,
+      level-answer (level (c .before)) (length (memory l)) (few l) all (c .answered .ensures) (inv .3),
       inv .2 ∙ ap (λ (k : ℕ). filled s source k (memory l)) (done (c .before) ∙ all),
     )
 
@@ -180,7 +180,7 @@ carry-spec =
     add-n
     loop-less
     loop-again
-    add-t13
+    add-taken
     answered-requires
     same-length
     returns)

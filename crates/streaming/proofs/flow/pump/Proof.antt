@@ -10,7 +10,7 @@ use lib.Pow.{pow-mono}
 use Rattle.alphabet.specs.Symbols.{Coding}
 use Rattle.streaming.specs.declared.decoder.StreamingDecoder.{StreamingDecoder}
 use Rattle.streaming.specs.Stream.{readsBy, basesOf}
-use Rattle.streaming.specs.Flow.{Level, filled, answeredBy}
+use Rattle.streaming.specs.Flow.{Level, filled}
 use Rattle.streaming.proofs.Levels.{level-lt, level-fill, level-gather, level-same, level-all, level-dry, level-answer, fill-none, fill-more, fill-over}
 use Rattle.streaming.proofs.Pumping.{block-next, block-memory, next-base, next-level}
 use Rattle.streaming.proofs.flow.pump.Statement.{statement}
@@ -273,7 +273,7 @@ returns c =
     let source = text l in
     let n = l2 .loop2 .n in
     let all = count (c .before) in (
-      c .answered .ensures ∙ ap (answeredBy s _) (inv .5 ∙ l .loop .inv .3) ∙ level-answer (inv .1) (length (memory l)) (inv .2) all,
+      level-answer (inv .1) (length (memory l)) (inv .2) all (c .answered .ensures) (inv .5 ∙ l .loop .inv .3),
       inv .4
           ∙ ap (filled s source n) (l .loop .inv .2)
           ∙ fill-over s source (memory l) (l .loop .n) n (inv .3)
