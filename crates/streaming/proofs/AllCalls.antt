@@ -1,15 +1,14 @@
 -- Whole lists of calls: the state, the bytes taken and the bases written, joined, are those of document 01's count.
-use mathlib.Core.Path.{_≡_, refl, sym, ap, ap₂, _∙_}
+use mathlib.Core.Path.{_≡_, refl, sym, ap, _∙_}
 use mathlib.Core.Bool.{Bool, true, false}
 use mathlib.Core.List.{List, [], _∷_, _++_, map, map-append}
 use mathlib.Core.Logic.{_⊎_, inl, inr}
-use Prim.Native.Nat.{ℕ, zero, suc, _+_, _-_, _*_, _/_, _≤_, _<_, min}
-use native.Mathlib.Nat.{add-assoc, add-mul, zero-mul, le-div-iff-mul-le}
+use Prim.Native.Nat.{ℕ, _+_, _-_, _*_, _/_, _≤_, _<_, min}
+use native.Mathlib.Nat.{add-mul, zero-mul, le-div-iff-mul-le}
 use native.Mathlib.Decide.{decLt}
 use native.Mathlib.Omega.{arith}
-use borrow.Author.Tests.{ltb-true, ltb-false, leb-true, leb-false, le-leb, lt-leb}
+use borrow.Author.Tests.{ltb-true, ltb-false, leb-true, leb-false}
 use lib.Dec.{leb, ltb}
-use lib.ListN.{length}
 use Rattle.alphabet.specs.declared.kind.AlphabetType.{AlphabetType}
 use Rattle.alphabet.specs.Symbols.{Coding, coding}
 use Rattle.alphabet.proofs.Laws.{lawful}
@@ -17,11 +16,10 @@ use Rattle.bits.specs.Tables.{tabulate, at}
 use Rattle.bits.specs.Streams.{bitAt, word, cut}
 use Rattle.bits.specs.Packing.{bytesFor}
 use Rattle.bits.proofs.Tabulated.{tabulate-add, tabulate-ext}
-use Rattle.streaming.specs.declared.decoder.StreamingDecoder.{StreamingDecoder}
 use Rattle.streaming.specs.declared.decoder.Streamed.{Streamed}
-use Rattle.streaming.specs.Stream.{freshStream, greatest}
-use Rattle.streaming.specs.Count.{Place, begin, takenBy, Feed, sourceOf, offered, reached, placeAfter, placeAfterAll, basesBetween, Fed, tookBy, nextBy, fedBy, fedAll, flowing, standsFor, fedAt}
-use Rattle.streaming.proofs.Greatest.{Largest, greatest-largest, largest-greatest}
+use Rattle.streaming.specs.Stream.{freshStream}
+use Rattle.streaming.specs.Count.{Place, begin, takenBy, Feed, offered, reached, placeAfter, placeAfterAll, basesBetween, Fed, tookBy, nextBy, fedBy, fedAll, flowing, standsFor, fedAt}
+use Rattle.streaming.proofs.Greatest.{Largest, greatest-largest}
 use Rattle.streaming.proofs.Feeding.{Reachable, Goes, goes}
 
 module _ (kind : AlphabetType) (q budget : ℕ) (lent : List ℕ) where

@@ -1,8 +1,8 @@
 -- Blocks: eight bases from as many bytes as a base has bits.
-use mathlib.Core.Path.{_≡_, refl, sym, ap, ap₂, _∙_}
+use mathlib.Core.Path.{_≡_, sym, ap, ap₂, _∙_}
 use mathlib.Core.List.{List, [], _∷_, _++_, append-assoc, append-nil}
 use Prim.Native.Nat.{ℕ, suc, _+_, _-_, _*_, _/_, _%_, _^_, _≤_, _<_}
-use native.Mathlib.Nat.{add-mul, one-mul, mul-assoc, add-assoc, add-suc, add-zero, mod-lt, mod-eq-of-lt, lt-of-lt-of-le, mul-le-mul-right, zero-mul, pow-zero, mul-one}
+use native.Mathlib.Nat.{add-mul, one-mul, mul-assoc, add-suc, add-zero, mod-lt, mod-eq-of-lt, lt-of-lt-of-le, mul-le-mul-right, zero-mul, pow-zero, mul-one}
 use native.Mathlib.Numerals.{add-one}
 use native.Mathlib.Omega.{arith}
 use lib.Arith.{digits-lt}
@@ -13,11 +13,10 @@ use Rattle.bits.specs.Tables.{tabulate, at}
 use Rattle.bits.specs.Streams.{bitAt, word}
 use Rattle.bits.proofs.Words.{word-add, word-lt, word-whole, bit-lt}
 use Rattle.bits.proofs.Tabulated.{length-tabulate, getD-tabulate, tabulate-add, tabulate-ext}
-use Rattle.alphabet.specs.Symbols.{Coding}
 use Rattle.streaming.specs.declared.decoder.StreamingDecoder.{StreamingDecoder}
 use Rattle.streaming.specs.Stream.{readsBy, sourceBits, used}
 use Rattle.streaming.specs.Flow.{Level, baseAt, filled, blockBase, withBases, withBlock}
-use Rattle.streaming.proofs.Levels.{level-field, source-lt}
+use Rattle.streaming.proofs.Levels.{level-field}
 
 -- ---- bytes gathered behind a number
 

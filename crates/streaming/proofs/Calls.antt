@@ -1,5 +1,5 @@
 -- What the stream's calls answer, by the questions that they ask.
-use mathlib.Core.Path.{_≡_, refl, sym, ap, _∙_}
+use mathlib.Core.Path.{_≡_, refl, ap}
 use mathlib.Core.Bool.{Bool, true, false, _&&_, _||_}
 use mathlib.Core.List.{[]}
 use mathlib.Core.Logic.{_⊎_, inl, inr}
@@ -11,7 +11,7 @@ use Rattle.alphabet.specs.declared.kind.AlphabetType.{AlphabetType}
 use Rattle.alphabet.specs.declared.kind.Named.{Named}
 use Rattle.alphabet.specs.declared.refusal.Refusal.{Refusal}
 use Rattle.alphabet.specs.Questions.{ask_else_then_, by}
-use Rattle.alphabet.specs.Symbols.{Coding, coding}
+use Rattle.alphabet.specs.Symbols.{coding}
 use Rattle.alphabet.specs.Names.{known, kindOf, namedAt}
 use Rattle.alphabet.proofs.Laws.{Packed, Plain, shape}
 use Rattle.streaming.specs.declared.decoder.StreamingDecoder.{StreamingDecoder}

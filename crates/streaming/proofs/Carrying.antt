@@ -1,13 +1,12 @@
 -- The turns of `carry`, for an alphabet of whole bytes.
 use mathlib.Core.Path.{_≡_, sym, ap, ap₂, _∙_}
 use mathlib.Core.List.{List}
-use Prim.Native.Nat.{ℕ, _+_, _-_, _*_, _/_, _%_, _^_, _≤_, _<_, min}
+use Prim.Native.Nat.{ℕ, _+_, _-_, _*_, _/_, _%_, _^_, _<_, min}
 use native.Mathlib.Nat.{add-zero, add-comm, one-mul}
 use native.Mathlib.Decide.{decLt}
 use native.Mathlib.Omega.{arith}
 use lib.ListN.{length}
 use lib.Pow.{shr-mod}
-use Rattle.alphabet.specs.Symbols.{Coding}
 use Rattle.bits.specs.Streams.{word}
 use Rattle.streaming.specs.declared.decoder.StreamingDecoder.{StreamingDecoder}
 use Rattle.streaming.specs.Stream.{readsBy, sourceBits, used, basesOf}

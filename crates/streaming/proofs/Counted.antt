@@ -1,23 +1,21 @@
 -- The bases of a call: the largest number, as document 01 says, and its closed form.
-use mathlib.Core.Path.{_≡_, refl, sym, ap, _∙_}
-use mathlib.Core.Bool.{Bool, true, false, _||_}
+use mathlib.Core.Path.{_≡_, sym}
+use mathlib.Core.Bool.{Bool, true, _||_}
 use mathlib.Core.List.{List}
 use mathlib.Core.Logic.{_⊎_, inl, inr}
 use Prim.Native.Nat.{ℕ, _+_, _-_, _*_, _/_, _≤_, _<_, min}
-use native.Mathlib.Nat.{le-div-iff-mul-le, mul-le-mul-right, zero-mul}
+use native.Mathlib.Nat.{le-div-iff-mul-le}
 use native.Mathlib.Decide.{decLt}
 use native.Mathlib.Omega.{arith}
-use borrow.Author.Tests.{leb-true, leb-false, le-leb, lt-leb, eqb-true, ltb-true}
+use borrow.Author.Tests.{leb-true, leb-false, eqb-true, ltb-true}
 use lib.Dec.{leb, eqb, ltb}
 use lib.ListN.{length}
-use Rattle.alphabet.specs.Symbols.{Coding}
 use Rattle.alphabet.proofs.Laws.{lawful}
-use Rattle.bits.specs.Packing.{bytesFor}
 use Rattle.streaming.specs.declared.decoder.StreamingDecoder.{StreamingDecoder}
-use Rattle.streaming.specs.Stream.{readsBy, soundStream, used, takes, basesOf, greatest}
-use Rattle.streaming.proofs.Greatest.{Largest, greatest-largest, largest-greatest}
-use Rattle.streaming.proofs.Levels.{used-none, takes-mono}
-use Rattle.streaming.proofs.Calls.{Sound, sound-facts, or-true}
+use Rattle.streaming.specs.Stream.{readsBy, soundStream, used, takes, basesOf}
+use Rattle.streaming.proofs.Greatest.{Largest, greatest-largest}
+use Rattle.streaming.proofs.Levels.{used-none}
+use Rattle.streaming.proofs.Calls.{sound-facts, or-true}
 
 -- n bases: no more than budget and space allow and the source's bytes suffice for, and no number that is larger
 pub record Most (s : StreamingDecoder) (source : List ℕ) (room n : ℕ) : Type 0 where

@@ -1,32 +1,31 @@
 -- Lists of calls: whatever the pieces of source and memory, the calls go from place to place of document 01's count.
 use mathlib.Core.Path.{_≡_, refl, sym, ap, ap₂, _∙_}
-use mathlib.Core.Bool.{Bool, true, false, cond, not, _||_}
-use mathlib.Core.List.{List, [], _∷_, _++_, map, map-append}
+use mathlib.Core.Bool.{Bool, true, false, cond, _||_}
+use mathlib.Core.List.{List, map}
 use mathlib.Core.Logic.{_⊎_, inl, inr}
-use Prim.Native.Nat.{ℕ, zero, suc, _+_, _-_, _*_, _/_, _%_, _^_, _≤_, _<_, min}
-use native.Mathlib.Nat.{add-zero, add-assoc, add-mul, suc-mul, zero-mul, mul-le-mul-right}
+use Prim.Native.Nat.{ℕ, suc, _+_, _-_, _*_, _/_, _%_, _^_, _≤_, _<_, min}
+use native.Mathlib.Nat.{add-assoc, add-mul, suc-mul, zero-mul, mul-le-mul-right}
 use native.Mathlib.Decide.{decLt}
 use native.Mathlib.Omega.{arith}
-use borrow.Author.Tests.{ltb-true, ltb-false, leb-true, leb-false, lt-ltb, le-ltb, le-leb, lt-leb, eq-eqb, ne-eqb}
+use borrow.Author.Tests.{ltb-true, ltb-false, leb-true, leb-false, lt-ltb, le-ltb, le-leb, lt-leb, ne-eqb}
 use lib.Dec.{leb, ltb, eqb}
-use lib.ListN.{length, take, drop, length-take}
+use lib.ListN.{length, drop, length-take}
 use lib.Seq.{getD-take, getD-drop}
 use Rattle.alphabet.specs.declared.kind.AlphabetType.{AlphabetType}
-use Rattle.alphabet.specs.Questions.{ask_else_then_}
 use Rattle.alphabet.specs.Symbols.{Coding, coding}
 use Rattle.bits.specs.Tables.{tabulate, at}
 use Rattle.bits.specs.Streams.{bitAt, word, after, cut}
 use Rattle.bits.specs.Packing.{bytesFor, atHand}
-use Rattle.bits.proofs.Words.{word-ext, word-lt, word-bit, bit-lt, bit-cong}
-use Rattle.bits.proofs.Tabulated.{tabulate-add, tabulate-ext}
+use Rattle.bits.proofs.Words.{word-ext, word-lt, word-bit, bit-lt}
+use Rattle.bits.proofs.Tabulated.{tabulate-ext}
 use Rattle.streaming.specs.declared.decoder.StreamingDecoder.{StreamingDecoder}
 use Rattle.streaming.specs.declared.decoder.Status.the-variants.{Hungry}
 use Rattle.streaming.specs.declared.decoder.Streamed.{Streamed}
 use Rattle.streaming.specs.Stream.{readsBy, freshStream, soundStream, greatest, sourceBits, used, takes, basesOf, statusOf, moved, movedBy, streamAt, streamWrites}
-use Rattle.streaming.specs.Count.{Place, begin, takenBy, Feed, sourceOf, offered, reached, placeAfter, placeAfterAll, basesBetween, Fed, tookBy, nextBy, fedBy, fedAll, flowing, standsFor, fedAt}
+use Rattle.streaming.specs.Count.{Place, takenBy, sourceOf, offered, reached, placeAfter, basesBetween, flowing, standsFor}
 use Rattle.streaming.proofs.Hand.{after-in, after-past}
 use Rattle.streaming.proofs.Greatest.{Largest, greatest-largest, largest-greatest}
-use Rattle.streaming.proofs.Levels.{used-none, used-mono}
+use Rattle.streaming.proofs.Levels.{used-none}
 use Rattle.streaming.proofs.Calls.{sound-last}
 
 -- ---- a source's bits are the lent bytes'

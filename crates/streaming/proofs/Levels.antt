@@ -1,28 +1,26 @@
 -- One law for each thing that the stream's loops do with the bits at hand.
 use mathlib.Core.Path.{_≡_, refl, sym, ap, ap₂, _∙_}
-use mathlib.Core.Bool.{Bool, true, false}
+use mathlib.Core.Bool.{Bool, true}
 use mathlib.Core.List.{List, _++_}
-use mathlib.Core.Logic.{inl, inr}
-use Prim.Native.Nat.{ℕ, zero, suc, _+_, _-_, _*_, _/_, _%_, _^_, _≤_, _<_, min}
-use native.Mathlib.Nat.{zero-mul, one-mul, add-mul, mul-le-mul-right, add-assoc, mod-eq-of-lt, mul-comm}
+use mathlib.Core.Logic.{inr}
+use Prim.Native.Nat.{ℕ, _+_, _-_, _*_, _/_, _%_, _^_, _≤_, _<_, min}
+use native.Mathlib.Nat.{zero-mul, one-mul, add-mul, mul-le-mul-right, mod-eq-of-lt}
 use native.Mathlib.Numerals.{add-one}
 use native.Mathlib.Omega.{arith}
 use borrow.Author.Tests.{le-leb, lt-leb}
 use lib.Dec.{leb}
 use lib.ListN.{length, drop, set}
 use lib.Seq.{drop-at, drop-drop}
-use Rattle.alphabet.specs.Symbols.{Coding}
 use Rattle.bits.specs.Tables.{tabulate, at}
 use Rattle.bits.specs.Streams.{bitAt, word}
-use Rattle.bits.specs.Packing.{bytesFor, atHand}
 use Rattle.bits.proofs.Words.{word-add, word-lt, word-high, word-low}
 use Rattle.bits.proofs.Tabulated.{length-tabulate, store}
 use Rattle.streaming.specs.declared.decoder.StreamingDecoder.{StreamingDecoder}
 use Rattle.streaming.specs.declared.decoder.Streamed.{Streamed}
-use Rattle.streaming.specs.Stream.{readsBy, sourceBits, used, takes, basesOf, greatest, statusOf, moved, movedBy}
+use Rattle.streaming.specs.Stream.{readsBy, sourceBits, used, takes, basesOf, statusOf, moved, movedBy}
 use Rattle.streaming.specs.Flow.{Level, baseAt, filled, answeredBy}
-use Rattle.streaming.proofs.Hand.{hand-lt, hand-head, hand-past, hand-push}
-use Rattle.streaming.proofs.Greatest.{Largest, largest-greatest}
+use Rattle.streaming.proofs.Hand.{hand-lt, hand-past, hand-push}
+use Rattle.streaming.proofs.Greatest.{largest-greatest}
 
 -- ---- the bits that bases use
 

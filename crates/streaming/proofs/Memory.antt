@@ -1,11 +1,10 @@
 -- A call's answer and its memory, by the questions that it asks.
-use mathlib.Core.Path.{_≡_, refl, sym, ap, ap₂, _∙_}
-use mathlib.Core.Bool.{Bool, true, false, _||_}
+use mathlib.Core.Path.{_≡_, refl, sym, ap, _∙_}
+use mathlib.Core.Bool.{true, false, _||_}
 use mathlib.Core.List.{List, [], _∷_, _++_, map, map-append}
 use Prim.Native.Nat.{ℕ, zero, suc, _+_, _*_}
 use lib.Dec.{eqb, ltb}
 use lib.ListN.{length, drop}
-use Rattle.alphabet.specs.Symbols.{Coding}
 use Rattle.alphabet.specs.Questions.{by}
 use Rattle.bits.specs.Tables.{tabulate}
 use Rattle.bits.specs.Streams.{word, cut}

@@ -1,9 +1,9 @@
 -- The bits at hand before the first base.
-use mathlib.Core.Path.{_≡_, refl, sym, ap, _∙_}
-use mathlib.Core.Bool.{Bool, true, false, _||_}
+use mathlib.Core.Path.{_≡_, sym, ap, _∙_}
+use mathlib.Core.Bool.{Bool, true, _||_}
 use mathlib.Core.List.{List}
 use mathlib.Core.Logic.{_⊎_, inl, inr}
-use Prim.Native.Nat.{ℕ, _+_, _-_, _*_, _%_, _^_, _≤_, _<_}
+use Prim.Native.Nat.{ℕ, _+_, _-_, _%_, _^_, _<_}
 use native.Mathlib.Nat.{mod-eq-of-lt}
 use native.Mathlib.Omega.{arith}
 use borrow.Author.Tests.{ltb-true, ne-eqb}
@@ -11,14 +11,13 @@ use lib.Dec.{ltb, eqb}
 use lib.ListN.{length}
 use Rattle.bits.specs.Tables.{at}
 use Rattle.bits.specs.Streams.{bitAt, word}
-use Rattle.bits.specs.Packing.{atHand}
 use Rattle.bits.proofs.Words.{word-low, word-whole, bit-lt}
 use Rattle.streaming.specs.declared.decoder.StreamingDecoder.{StreamingDecoder}
 use Rattle.streaming.specs.Stream.{soundStream, sourceBits, used}
 use Rattle.streaming.specs.Flow.{Level}
 use Rattle.streaming.proofs.Hand.{hand-head, hand-past}
 use Rattle.streaming.proofs.Levels.{used-none}
-use Rattle.streaming.proofs.Calls.{Sound, sound-facts}
+use Rattle.streaming.proofs.Calls.{sound-facts}
 
 module _ (s : StreamingDecoder) (source : List ℕ) (sound : soundStream s ≡ true) where
   -- without a skip, those that pend

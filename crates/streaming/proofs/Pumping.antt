@@ -2,11 +2,10 @@
 use mathlib.Core.Path.{_≡_, sym, ap, _∙_}
 use mathlib.Core.List.{List}
 use Prim.Native.Nat.{ℕ, _+_, _-_, _*_, _/_, _%_, _^_, _≤_, _<_}
-use native.Mathlib.Nat.{add-zero, one-mul, mul-comm}
+use native.Mathlib.Nat.{add-zero, one-mul}
 use native.Mathlib.Omega.{arith}
-use Rattle.alphabet.specs.Symbols.{Coding}
 use Rattle.bits.specs.Tables.{tabulate, at}
-use Rattle.bits.specs.Streams.{bitAt, word}
+use Rattle.bits.specs.Streams.{word}
 use Rattle.streaming.specs.declared.decoder.StreamingDecoder.{StreamingDecoder}
 use Rattle.streaming.specs.Stream.{readsBy, sourceBits, used}
 use Rattle.streaming.specs.Flow.{Level, baseAt, filled, withBlock}

@@ -1,7 +1,7 @@
 -- The count over a list of calls. States document 01, "Top: the stream", its rule on k, and "The record", where a stream's sources begin.
 -- It knows coding, skip, budget and lent bytes, and holds whether the skip is due and k, the bases written in all; nothing of a stream's state.
 use Prim.Native.Nat.{ℕ, _+_, _-_, _*_, min}
-use mathlib.Core.Bool.{Bool, true, false, cond, not, _||_}
+use mathlib.Core.Bool.{Bool, false, cond, not, _||_}
 use mathlib.Core.List.{List, [], _∷_, _++_, map}
 use lib.Dec.{leb, ltb}
 use lib.ListN.{length, take, drop}

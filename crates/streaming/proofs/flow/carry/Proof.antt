@@ -1,13 +1,12 @@
-use mathlib.Core.Path.{_≡_, refl, sym, ap, _∙_}
+use mathlib.Core.Path.{_≡_, refl, ap, _∙_}
 use mathlib.Core.List.{List}
-use Prim.Native.Nat.{ℕ, _+_, _-_, _^_, _≤_, _<_, min}
+use Prim.Native.Nat.{ℕ, _+_, _-_, _≤_, _<_, min}
 use native.Mathlib.Nat.{lt-of-lt-of-le}
 use native.Mathlib.Omega.{arith}
 use borrow.Author.Needs.{needs}
 use lib.ListN.{length, length-set}
 use lib.Pow.{pow-mono}
 use Rattle.streaming.specs.declared.decoder.StreamingDecoder.{StreamingDecoder}
-use Rattle.streaming.specs.Stream.{basesOf}
 use Rattle.streaming.specs.Flow.{Level, filled}
 use Rattle.streaming.proofs.Levels.{level-lt, level-fill, level-same, level-answer, fill-none, fill-more}
 use Rattle.streaming.proofs.Carrying.{carry-lt, carry-base, carry-level, carry-count}

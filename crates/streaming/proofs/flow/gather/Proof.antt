@@ -1,8 +1,7 @@
-use mathlib.Core.Path.{_≡_, refl, ap, _∙_}
-use Prim.Native.Nat.{ℕ, _+_, _-_, _*_, _^_, _≤_, _<_}
+use mathlib.Core.Path.{_≡_, refl}
+use Prim.Native.Nat.{_+_, _-_, _≤_}
 use native.Mathlib.Omega.{arith}
 use borrow.Author.Needs.{needs}
-use lib.ListN.{length}
 use Rattle.streaming.proofs.Blocks.{Gathered, gather-none, gather-lt, gather-more}
 use Rattle.streaming.proofs.flow.gather.Statement.{statement}
 use Rattle.streaming.proofs.flow.gather.Tie as tie

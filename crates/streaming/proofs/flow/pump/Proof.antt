@@ -1,13 +1,12 @@
 use mathlib.Core.Path.{_≡_, refl, sym, ap, _∙_}
 use mathlib.Core.List.{List}
 use mathlib.Core.Logic.{⊎-elim}
-use Prim.Native.Nat.{ℕ, _+_, _-_, _^_, _≤_, _<_, min}
+use Prim.Native.Nat.{ℕ, _+_, _-_, _≤_, _<_, min}
 use native.Mathlib.Nat.{lt-of-lt-of-le}
 use native.Mathlib.Omega.{arith}
 use borrow.Author.Needs.{needs}
 use lib.ListN.{length, length-set}
 use lib.Pow.{pow-mono}
-use Rattle.alphabet.specs.Symbols.{Coding}
 use Rattle.streaming.specs.declared.decoder.StreamingDecoder.{StreamingDecoder}
 use Rattle.streaming.specs.Stream.{readsBy, basesOf}
 use Rattle.streaming.specs.Flow.{Level, filled}
@@ -15,8 +14,6 @@ use Rattle.streaming.proofs.Levels.{level-lt, level-fill, level-gather,
 use Rattle.streaming.proofs.Pumping.{block-next, block-memory, next-base, next-level}
 use Rattle.streaming.proofs.flow.pump.Statement.{statement}
 use Rattle.streaming.proofs.flow.pump.Tie as tie
-use Rattle.streaming.proofs.flow.pump.Reads as reads
-use Rattle.streaming.proofs.flow.pump.Lts as lts
 
 abbrev Inv-loop : tie.InvT-loop
 Inv-loop s source out₀ b table limit acc₀ have taken₀ n₀ out acc taken n =

@@ -1,5 +1,5 @@
-use mathlib.Core.Path.{_≡_, refl, _∙_}
-use Prim.Native.Nat.{_+_, _-_, _*_, _≤_, _<_}
+use mathlib.Core.Path.{_≡_, refl}
+use Prim.Native.Nat.{_+_, _-_, _*_, _≤_}
 use native.Mathlib.Nat.{add-mul, one-mul, mul-le-mul-right, zero-mul}
 use native.Mathlib.Omega.{arith}
 use borrow.Author.Needs.{needs}
@@ -8,9 +8,6 @@ use Rattle.streaming.specs.Flow.{withBases, withBlock}
 use Rattle.streaming.proofs.Blocks.{spread-none, spread-code, spread-more}
 use Rattle.streaming.proofs.flow.spread.Statement.{statement}
 use Rattle.streaming.proofs.flow.spread.Tie as tie
-use Rattle.streaming.proofs.flow.spread.Reads as reads
-use Rattle.streaming.proofs.flow.spread.Lts as lts
-use Rattle.streaming.proofs.shift.code.Reads as code-reads
 
 abbrev Inv-loop : tie.InvT-loop
 Inv-loop table bits have b out₀ n left₀ i₀ out left i =

@@ -1,4 +1,4 @@
-use mathlib.Core.Path.{_≡_, sym, _∙_}
+use mathlib.Core.Path.{sym, _∙_}
 use borrow.Author.Needs.{needs}
 use Rattle.streaming.specs.Stream.{freshStream}
 use Rattle.streaming.proofs.Calls.{start-unknown, start-skip, start-fresh}

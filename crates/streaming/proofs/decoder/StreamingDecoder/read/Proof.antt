@@ -1,4 +1,4 @@
-use mathlib.Core.Path.{_≡_, sym, ap, _∙_}
+use mathlib.Core.Path.{_≡_, sym, _∙_}
 use mathlib.Core.Bool.{true, _||_}
 use borrow.Author.Needs.{needs}
 use borrow.Author.Tests.{not-true, not-false}
@@ -9,8 +9,6 @@ use Rattle.streaming.proofs.Calls.{sound-facts, plain-of-eight, packed-
 use Rattle.streaming.proofs.Memory.{Met, refuses, waits, moves}
 use Rattle.streaming.proofs.decoder.StreamingDecoder.read.Statement.{statement}
 use Rattle.streaming.proofs.decoder.StreamingDecoder.read.Tie as tie
-use Rattle.streaming.proofs.decoder.StreamingDecoder.read.Reads as reads
-use Rattle.streaming.proofs.decoder.StreamingDecoder.read.Lts as lts
 
 -- past the first question the state is sound
 sound : (c : tie.Else1) → soundStream (c .before .before .before .before .args .self) ≡ true
