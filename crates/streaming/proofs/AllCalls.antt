@@ -82,11 +82,12 @@ module _ (kind : AlphabetType) (q budget : ℕ) (lent : List ℕ) where
   -- ---- from a fresh state
 
   pub begins : Reachable kind q budget lent (begin q)
+  unfolding takenBy
   begins = go (ltb 0 q) refl
     where
       go : (b : Bool) → ltb 0 q ≡ b → Reachable kind q budget lent (record { due = b; k = 0 })
-      go true e = record { start = λ z. (refl, ltb-true 0 q e); within = omega arith }
-      go false e = record { start = λ z. let w : _≡_ {A = ℕ} 0 1 = cc in absurd (omega arith); within = omega arith }
+      go true e = record { start = λ z. (refl, ltb-true 0 q e); within = omega arith; taken = omega arith }
+      go false e = record { start = λ z. let w : _≡_ {A = ℕ} 0 1 = cc in absurd (omega arith); within = omega arith; taken = omega (arith, ltb-false 0 q e, zero-mul W) }
 
   pub fed-fresh : _≡_ {A = Fed} (record { state = freshStream kind q budget; taken = 0; bases = [] }) (fedAt kind q budget lent (begin q))
   unfolding fedAt standsFor takenBy flowing freshStream basesBetween cut tabulate word

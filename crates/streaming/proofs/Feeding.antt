@@ -9,7 +9,7 @@ use native.Mathlib.Decide.{decLt}
 use native.Mathlib.Omega.{arith}
 use borrow.Author.Tests.{ltb-true, ltb-false, leb-true, leb-false, lt-ltb, le-ltb, le-leb, lt-leb, ne-eqb}
 use lib.Dec.{leb, ltb, eqb}
-use lib.ListN.{length, drop, length-take}
+use lib.ListN.{length, drop, length-take, length-drop}
 use lib.Seq.{getD-take, getD-drop}
 use Rattle.alphabet.specs.declared.kind.AlphabetType.{AlphabetType}
 use Rattle.alphabet.specs.Symbols.{Coding, coding}
@@ -81,7 +81,7 @@ module _ (kind : AlphabetType) (q budget : ℕ) (lent : List ℕ) where
     used-is m = omega (arith, r .first, ap (λ (x : ℕ). m * x) width-is, add-mul k m W)
 
     -- the bytes taken
-    takes-is : (m : ℕ) → taken + takes s m ≡ bytesFor (upTo (k + m))
+    pub takes-is : (m : ℕ) → taken + takes s m ≡ bytesFor (upTo (k + m))
     unfolding takes
     takes-is m = omega (arith, used-is m, r .ends, r .few)
 
@@ -93,7 +93,7 @@ module _ (kind : AlphabetType) (q budget : ℕ) (lent : List ℕ) where
     unfolding takes
     none-takes = omega (arith, used-none s, r .enough)
 
-    suffices : takes s n ≤ length source
+    pub suffices : takes s n ≤ length source
     suffices = go (largest .passes)
       where
         go : (n ≡ 0) ⊎ (leb (takes s n) (length source) ≡ true) → takes s n ≤ length source
@@ -234,12 +234,12 @@ module _ (kind : AlphabetType) (q budget : ℕ) (lent : List ℕ) where
           ∙ source-bit lent 0 m i l
           ∙ ap L place
 
-  sound-flowing : (k : ℕ) → soundStream (flowing kind q budget lent k) ≡ true
+  pub sound-flowing : (k : ℕ) → soundStream (flowing kind q budget lent k) ≡ true
   unfolding flowing
   sound-flowing k =
       sound-last (flowing kind q budget lent k) (omega arith) (few-left k) (word-lt L (bit-lt 8 (at lent)) (upTo k) (bytesFor (upTo k) * 8 - upTo k))
 
-  sound-fresh : q < 8 → soundStream (freshStream kind q budget) ≡ true
+  pub sound-fresh : q < 8 → soundStream (freshStream kind q budget) ≡ true
   unfolding freshStream
   sound-fresh small = sound-last (freshStream kind q budget) small (omega arith) (omega arith) ∙ go (eqb q 0)
     where
@@ -253,6 +253,7 @@ module _ (kind : AlphabetType) (q budget : ℕ) (lent : List ℕ) where
   pub record Reachable (p : Place) : Type 0 where
     pub start : p .due ≡ true → (p .k ≡ 0) × (0 < q)
     pub within : p .k ≤ budget
+    pub taken : takenBy A q p ≤ length lent
 
   -- what a call tells and writes, from a place to the next
   pub record Goes (p : Place) (m room : ℕ) (next : Place) : Type 0 where
@@ -265,8 +266,9 @@ module _ (kind : AlphabetType) (q budget : ℕ) (lent : List ℕ) where
     pub grows : (p .k ≤ next .k) × (takenBy A q p ≤ takenBy A q next)
     pub reach : Reachable next
 
-  no-due : {k : ℕ} → k ≤ budget → Reachable (record { due = false; k = k })
-  no-due h = record { start = λ z. let w : _≡_ {A = ℕ} 0 1 = cc in absurd (omega arith); within = h }
+  no-due : {k : ℕ} → k ≤ budget → bytesFor (upTo k) ≤ length lent → Reachable (record { due = false; k = k })
+  unfolding takenBy
+  no-due h t = record { start = λ z. let w : _≡_ {A = ℕ} 0 1 = cc in absurd (omega arith); within = h; taken = t }
 
   -- a call that gets past the skip
   goes-on :
@@ -274,14 +276,17 @@ module _ (kind : AlphabetType) (q budget : ℕ) (lent : List ℕ) where
       Within (standsFor kind q budget lent p) (sourceOf lent (takenBy A q p) m) origin (p .k) (takenBy A q p) →
       soundStream (standsFor kind q budget lent p) ≡ true →
       eqb (standsFor kind q budget lent p .skip) 0 || ltb 0 (length (sourceOf lent (takenBy A q p) m)) ≡ true →
+      takenBy A q p ≤ length lent →
       Goes p m room (record { due = false; k = reached A q budget lent p m room })
   unfolding streamAt streamWrites movedBy standsFor takenBy reached offered
-  goes-on p m room origin r sound begins =
+  goes-on p m room origin r sound begins held =
       record {
         answer = told ∙ same;
         wrote = ap (streamWrites s source) told ∙ writes-is room r ∙ ap (basesBetween A q budget lent (p .k)) count;
         grows = (omega (arith, all), omega (arith, takes-is room r n₁, ap (λ (x : ℕ). bytesFor (upTo x)) all));
-        reach = no-due (omega (arith, all, bases-within room r, r .written));
+        reach =
+            no-due (omega (arith, all, bases-within room r, r .written))
+            (omega (arith, takes-is room r n₁, ap (λ (x : ℕ). bytesFor (upTo x)) all, suffices room r, length-take m (drop taken lent), length-drop taken lent, held));
       }
     where
       s : StreamingDecoder
@@ -334,7 +339,7 @@ module _ (kind : AlphabetType) (q budget : ℕ) (lent : List ℕ) where
         answer = told;
         wrote = ap (streamWrites (freshStream kind q budget) (sourceOf lent 0 m)) told;
         grows = (omega arith, omega arith);
-        reach = record { start = λ z. (refl, due); within = omega arith };
+        reach = record { start = λ z. (refl, due); within = omega arith; taken = omega arith };
       }
     where
       asks : eqb (freshStream kind q budget .skip) 0 || ltb 0 (length (sourceOf lent 0 m)) ≡ false
@@ -349,7 +354,7 @@ module _ (kind : AlphabetType) (q budget : ℕ) (lent : List ℕ) where
       let some : 0 < length (sourceOf lent 0 m) = ltb-true 0 (length (sourceOf lent 0 m)) e in
       let offers : ltb 0 (0 + length (sourceOf lent 0 m)) ≡ true = lt-ltb 0 (0 + length (sourceOf lent 0 m)) (omega arith) in
       rw offers
-      (goes-on (record { due = true; k = 0 }) m room 0 (within-fresh m small some) (sound-fresh small) (rw e (or-right (eqb (freshStream kind q budget .skip) 0))))
+      (goes-on (record { due = true; k = 0 }) m room 0 (within-fresh m small some) (sound-fresh small) (rw e (or-right (eqb (freshStream kind q budget .skip) 0))) (omega arith))
     where
       or-right : (x : Bool) → x || true ≡ true
       or-right true = refl
@@ -364,7 +369,7 @@ module _ (kind : AlphabetType) (q budget : ℕ) (lent : List ℕ) where
   unfolding placeAfter standsFor takenBy
   goes-from true k m room small g =
       rw (g .start refl .0) (goes-due m room small (g .start refl .1) (ltb 0 (length (sourceOf lent 0 m))) refl)
-  goes-from false k m room small g = goes-on (record { due = false; k = k }) m room (upTo k) (within-flowing k m (g .within)) (sound-flowing k) (flowing-skip k m)
+  goes-from false k m room small g = goes-on (record { due = false; k = k }) m room (upTo k) (within-flowing k m (g .within)) (sound-flowing k) (flowing-skip k m) (g .taken)
 
   pub goes : (p : Place) (m room : ℕ) → q < 8 → Reachable p → Goes p m room (placeAfter A q budget lent p m room)
   goes p m room small g = goes-from (p .due) (p .k) m room small g

@@ -11,3 +11,4 @@ pub mod Memory
 pub mod Counted
 pub mod Feeding
 pub mod AllCalls
+pub mod Ending

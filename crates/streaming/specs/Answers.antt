@@ -6,6 +6,7 @@ use Rattle.streaming.specs.declared.decoder.Status.{Status}
 use Rattle.streaming.specs.declared.decoder.Status.the-variants.{Hungry, Done, Full}
 use Rattle.streaming.specs.declared.decoder.StreamStarted.{StreamStarted}
 use Rattle.streaming.specs.declared.decoder.Streamed.{Streamed}
+use Rattle.streaming.specs.declared.decoder.Ended.{Ended}
 
 -- the stream's `new`
 abbrev pub streamStartedReply : StreamStarted → Reply
@@ -22,3 +23,8 @@ statusNumber Full = 3
 abbrev pub streamedReply : Streamed → Reply
 streamedReply (Streamed.Moved taken written status s) = accepted (taken ∷ written ∷ statusNumber status ∷ [])
 streamedReply (Streamed.Refused q s) = refusalReply q
+
+-- the end call
+abbrev pub endedReply : Ended → Reply
+endedReply Ended.Complete = accepted []
+endedReply (Ended.Refused q s) = refusalReply q

@@ -1,9 +1,9 @@
 -- The count over a list of calls. States document 01, "Top: the stream", its rule on k, and "The record", where a stream's sources begin.
 -- It knows coding, skip, budget and lent bytes, and holds whether the skip is due and k, the bases written in all; nothing of a stream's state.
 use Prim.Native.Nat.{ℕ, _+_, _-_, _*_, min}
-use mathlib.Core.Bool.{Bool, false, cond, not, _||_}
+use mathlib.Core.Bool.{Bool, false, cond, not, _&&_, _||_}
 use mathlib.Core.List.{List, [], _∷_, _++_, map}
-use lib.Dec.{leb, ltb}
+use lib.Dec.{leb, ltb, eqb}
 use lib.ListN.{length, take, drop}
 use Rattle.alphabet.specs.declared.kind.AlphabetType.{AlphabetType}
 use Rattle.alphabet.specs.Questions.{ask_else_then_}
@@ -27,6 +27,10 @@ begin q = record { due = ltb 0 q; k = 0 }
 -- the bytes taken in all: none while the skip is due
 unfoldable pub takenBy : Coding → ℕ → Place → ℕ
 takenBy A q p = cond (p .due) 0 (bytesFor (q + p .k * A .width))
+
+-- what the end call asks of a place: the skip done, and every base written
+abbrev pub complete : ℕ → Place → Bool
+complete budget p = not (p .due) && eqb (p .k) budget
 
 -- a call: how many of the lent bytes not yet taken it is given, at most, and its output space
 pub record Feed : Type 0 where

@@ -1,7 +1,7 @@
 -- The stream. States document 01, "Top: the stream", for one call from any state, and questions 1, 3, 4 and 7.
 use Prim.Native.Nat.{ℕ, zero, suc, _+_, _-_, _*_, _^_, min}
 use mathlib.Core.Bool.{Bool, cond, _&&_, _||_}
-use mathlib.Core.List.{List, [], map}
+use mathlib.Core.List.{List, [], _∷_, map}
 use lib.Dec.{leb, ltb, eqb}
 use lib.ListN.{length}
 use Rattle.alphabet.specs.declared.kind.AlphabetType.{AlphabetType}
@@ -16,6 +16,7 @@ use Rattle.streaming.specs.declared.decoder.Status.{Status}
 use Rattle.streaming.specs.declared.decoder.Status.the-variants.{Hungry, Done, Full}
 use Rattle.streaming.specs.declared.decoder.StreamStarted.{StreamStarted}
 use Rattle.streaming.specs.declared.decoder.Streamed.{Streamed}
+use Rattle.streaming.specs.declared.decoder.Ended.{Ended}
 
 -- ---- the state
 
@@ -98,3 +99,12 @@ streamWrites s source (Streamed.Refused q next) = []
 -- the output memory afterwards
 unfoldable pub streamMemory : StreamingDecoder → List ℕ → List ℕ → List ℕ
 streamMemory s source memory = front (streamWrites s source (streamAt s source (length memory))) memory
+
+-- ---- the end call
+
+-- asked: state; then, that the skip is done and the budget used, else refused by 7 with the bases outstanding
+unfoldable pub endAt : StreamingDecoder → Ended
+endAt s =
+    ask soundStream s else Ended.Refused (by 1 []) s then
+    ask eqb (s .skip) 0 && eqb (s .budget) 0 else Ended.Refused (by 7 (s .budget ∷ [])) s then
+    Ended.Complete

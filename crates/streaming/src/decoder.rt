@@ -44,6 +44,12 @@ pub enum Streamed {
     Refused(Refusal, StreamingDecoder),
 }
 
+// What the end call answers. The call itself lands with the record.
+pub enum Ended {
+    Complete,
+    Refused(Refusal, StreamingDecoder),
+}
+
 impl StreamingDecoder {
     // A stream that has taken nothing. A number above 5 is refused by 8, a skip above 7 by 6.
     pub fn new(alphabet: u64, skip: u64, budget: u64) -> StreamStarted

@@ -3,6 +3,7 @@ mod decoder;
 mod flow;
 mod shift;
 
+pub use decoder::Ended;
 pub use decoder::Status;
 pub use decoder::StreamStarted;
 pub use decoder::Streamed;
