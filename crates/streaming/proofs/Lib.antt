@@ -11,4 +11,5 @@ pub mod Memory
 pub mod Counted
 pub mod Feeding
 pub mod AllCalls
+pub mod Pieces
 pub mod Ending
