@@ -47,3 +47,9 @@ withBases m table bits have b n memory = (take n memory ++ tabulate m (blockBase
 
 unfoldable pub withBlock : List ℕ → ℕ → ℕ → ℕ → ℕ → List ℕ → List ℕ
 withBlock = withBases 8
+
+-- ---- a run of bytes
+
+-- memory with `count` source bytes from place `from` on at its front
+unfoldable pub withRun : List ℕ → ℕ → ℕ → List ℕ → List ℕ
+withRun source from count memory = tabulate count (λ i. at source (from + i)) ++ drop count memory

@@ -16,7 +16,7 @@ ghost use Rattle.alphabet.specs.Symbols.{Coding};
 ghost use Rattle.bits.specs.Tables.{at};
 ghost use Rattle.bits.specs.Streams.{bitAt, word};
 ghost use Rattle.streaming.specs.Stream.{soundStream, readsBy, statusOf, basesOf, movedBy};
-ghost use Rattle.streaming.specs.Flow.{Opened, answeredBy, filled, withBlock};
+ghost use Rattle.streaming.specs.Flow.{Opened, answeredBy, filled, withBlock, withRun};
 
 // `taken` source bytes are taken; `have` bits, of value `acc`, are taken and not used.
 pub(crate) struct Flow {
@@ -163,7 +163,18 @@ pub(crate) fn pump(s: StreamingDecoder, source: &[u8], start: Flow, out: &mut [u
     answered(s, acc, have, taken, n, out.len())
 }
 
-// The bases of an alphabet of whole bytes. Each base takes a byte, so as many bits stay at hand.
+// A run of source bytes at the front of memory.
+fn copy(source: &[u8], from: usize, count: usize, out: &mut [u8])
+    requires { ⌜ (from + count ≤ length (now source)) × (count ≤ length (now out)) ⌝ }
+    ensures { λ _. ⌜ now (out .exit) ≡ withRun (now (source .entry)) from count (now (out .entry)) ⌝ }
+{
+    for i in 0..count {
+        out[i] = source[from + i];
+    }
+}
+
+// The bases of an alphabet of whole bytes. Each base takes a byte, so as many bits stay at hand; with none, bases are bytes as
+// they come.
 pub(crate) fn carry(s: StreamingDecoder, source: &[u8], start: Flow, out: &mut [u8]) -> Streamed
     requires { ⌜ ((readsBy s .width ≡ 8) × ((c : ℕ) → readsBy s .symbol c ≡ c)) × ((s .bits < 8) × Opened s (now source) start) ⌝ }
     ensures { λ r. ⌜ r ≡ movedBy s (now (source .entry)) (length (now (out .entry))) (basesOf s (now (source .entry)) (length (now (out .entry)))) ⌝ }
@@ -173,12 +184,16 @@ pub(crate) fn carry(s: StreamingDecoder, source: &[u8], start: Flow, out: &mut [
     let from = start.taken;
     let limit = least(s.budget, out.len());
     let count = least(limit as u64, source.len() - from);
+    let taken = from + count;
+    if have == 0 {
+        copy(source, from, count, out);
+        return answered(s, 0, 0, taken, count, out.len());
+    }
     let mut acc = start.acc;
     for n in 0..count {
         let bits = push(acc, source[from + n]);
         out[n] = top(bits, have);
         acc = low(bits, have);
     }
-    let taken = from + count;
     answered(s, acc, have, taken, count, out.len())
 }
