@@ -4,18 +4,19 @@ use mathlib.Core.Bool.{Bool, true, _||_}
 use mathlib.Core.List.{List}
 use mathlib.Core.Logic.{_⊎_, inl, inr}
 use Prim.Native.Nat.{ℕ, _+_, _-_, _*_, _/_, _≤_, _<_, min}
-use native.Mathlib.Nat.{le-div-iff-mul-le}
+use native.Mathlib.Nat.{le-div-iff-mul-le, one-mul}
 use native.Mathlib.Decide.{decLt}
 use native.Mathlib.Omega.{arith}
 use borrow.Author.Tests.{leb-true, leb-false, eqb-true, ltb-true}
 use lib.Dec.{leb, eqb, ltb}
 use lib.ListN.{length}
 use Rattle.alphabet.proofs.Laws.{lawful}
+use Rattle.bits.proofs.Words.{word-lt}
 use Rattle.streaming.specs.declared.decoder.StreamingDecoder.{StreamingDecoder}
-use Rattle.streaming.specs.Stream.{readsBy, soundStream, used, takes, basesOf}
+use Rattle.streaming.specs.Stream.{readsBy, soundStream, sourceBits, used, takes, basesOf, moved}
 use Rattle.streaming.proofs.Greatest.{Largest, greatest-largest}
-use Rattle.streaming.proofs.Levels.{used-none}
-use Rattle.streaming.proofs.Calls.{sound-facts, or-true}
+use Rattle.streaming.proofs.Levels.{used-none, used-add, source-lt}
+use Rattle.streaming.proofs.Calls.{sound-facts, sound-last, or-true}
 
 -- n bases: no more than budget and space allow and the source's bytes suffice for, and no number that is larger
 pub record Most (s : StreamingDecoder) (source : List ℕ) (room n : ℕ) : Type 0 where
@@ -23,6 +24,14 @@ pub record Most (s : StreamingDecoder) (source : List ℕ) (room n : ℕ) : Type
   pub fits : n ≤ room
   pub suffices : takes s n ≤ length source
   pub most : (m : ℕ) → m ≤ s .budget → m ≤ room → takes s m ≤ length source → m ≤ n
+
+bits-short : (s : StreamingDecoder) (m : ℕ) (source : List ℕ) → length source < takes s m → (n : ℕ) → used s m ≡ used s n + 1 * readsBy s .width → s .bits + length source * 8 < used s n + readsBy s .width
+unfolding takes
+bits-short s m source l n e = omega (arith, e, one-mul (readsBy s .width))
+
+takes-all : (s : StreamingDecoder) (n : ℕ) (source : List ℕ) → s .bits + length source * 8 < used s n + readsBy s .width → takes s n ≤ length source → readsBy s .width ≤ 8 → takes s n ≡ length source
+unfolding takes
+takes-all s n source l h w = omega arith
 
 module _ (s : StreamingDecoder) (source : List ℕ) (room : ℕ) (sound : soundStream s ≡ true) (begins : eqb (s .skip) 0 || ltb 0 (length source) ≡ true) where
   test : ℕ → Bool
@@ -94,3 +103,39 @@ module _ (s : StreamingDecoder) (source : List ℕ) (room : ℕ) (sound : soundS
       least m a b c =
           let part : m ≤ avail / W = le-div-iff-mul-le {k = W} {x = m} {y = avail} (lawful (s .alphabet) .some-bits) .1 (omega arith) in
           omega arith
+
+  -- ---- the status
+
+  -- Hungry past the skip: with bases due and space for one, the source is used up and fewer bits pend than a base has
+  pub dry : basesOf s source room < s .budget → basesOf s source room < room → (takes s (basesOf s source room) ≡ length source) × (moved s source (basesOf s source room) .bits < readsBy s .width)
+  unfolding moved
+  dry due space = (used-up, few-pend)
+    where
+      n : ℕ
+      n = basesOf s source room
+
+      -- one base more lacks bytes
+      lacks : length source < takes s (n + 1)
+      lacks = go (decLt (length source) (takes s (n + 1)))
+        where
+          go : Dec (length source < takes s (n + 1)) → length source < takes s (n + 1)
+          go (yes l) = l
+          go (no l) = absurd (omega (arith, bases-most .most (n + 1) (omega arith) (omega arith) (omega arith)))
+
+      -- so the bits at hand are too few for it
+      short : s .bits + length source * 8 < used s n + readsBy s .width
+      short = bits-short s (n + 1) source lacks n (used-add s n 1)
+
+      used-up : takes s n ≡ length source
+      used-up = takes-all s n source short (bases-most .suffices) (lawful (s .alphabet) .narrow)
+
+      few-pend : s .bits + takes s n * 8 - used s n < readsBy s .width
+      few-pend = omega (arith, short, used-up, lawful (s .alphabet) .some-bits)
+
+-- ---- the next state
+
+-- it is sound, so the next call does not refuse it
+pub moved-sound : (s : StreamingDecoder) (source : List ℕ) (n : ℕ) → s .bits < 8 → soundStream (moved s source n) ≡ true
+unfolding moved takes
+moved-sound s source n few =
+    sound-last (moved s source n) (omega arith) (omega arith) (word-lt (sourceBits s source) (source-lt s source) (used s n) (s .bits + takes s n * 8 - used s n))
