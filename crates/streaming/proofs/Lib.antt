@@ -1,0 +1,15 @@
+pub mod Shifts
+pub mod Hand
+pub mod Greatest
+pub mod Levels
+pub mod Calls
+pub mod Openings
+pub mod Blocks
+pub mod Pumping
+pub mod Carrying
+pub mod Memory
+pub mod Counted
+pub mod Feeding
+pub mod AllCalls
+pub mod Pieces
+pub mod Ending

@@ -1,0 +1,100 @@
+use mathlib.Core.Path.{_≡_, refl}
+use Prim.Native.Nat.{_+_, _-_, _*_, _≤_}
+use native.Mathlib.Nat.{add-mul, one-mul, mul-le-mul-right, zero-mul}
+use native.Mathlib.Omega.{arith}
+use borrow.Author.Needs.{needs}
+use lib.ListN.{length, length-set}
+use Rattle.streaming.specs.Flow.{withBases, withBlock}
+use Rattle.streaming.proofs.Blocks.{spread-none, spread-code, spread-more}
+use Rattle.streaming.proofs.flow.spread.Statement.{statement}
+use Rattle.streaming.proofs.flow.spread.Tie as tie
+
+abbrev Inv-loop : tie.InvT-loop
+Inv-loop table bits have b out₀ n left₀ i₀ out left i =
+    (i ≤ 8) × (left + i * b ≡ have + b * 8) × (out ≡ withBases i table bits have b n out₀) × (length out ≡ length out₀)
+
+abbrev μ-loop : tie.MeasureT-loop
+μ-loop table bits have b out₀ n left₀ i₀ out left i = 8 - i
+
+mul-left : tie.Need-mul-left Inv-loop μ-loop
+mul-left c = search needs
+
+add-left : tie.Need-add-left Inv-loop μ-loop
+add-left c = search needs
+
+loop-holds : tie.Need-loop-holds Inv-loop μ-loop
+loop-holds c =
+    let a = c .before .args in
+    (search needs, omega (arith, zero-mul (a .b)), spread-none (a .table .now) (a .bits) (a .have) (a .b) (a .n) (a .out .now), refl)
+
+-- there are bits for a base more
+fits : (c : tie.In-loop Inv-loop μ-loop) → c .before .before .before .args .b ≤ c .before .loop .left
+fits c =
+    let a = c .before .before .before .args in
+    let l = c .before .loop in
+    omega (arith, l .inv .1, mul-le-mul-right {m = l .i + 1} {n = 8} (a .b) (omega (arith, c .loop-test .taken)), add-mul (l .i) 1 (a .b), one-mul (a .b))
+
+sub-left : tie.Need-sub-left Inv-loop μ-loop
+sub-left c = fits c
+
+code-requires : tie.Need-code-requires Inv-loop μ-loop
+code-requires c κs = let start = c .before .before .before in (omega (arith, c .before .loop .inv .1, start .pre), start .pre .1 .0)
+
+element-copy-out-out : tie.Need-element-copy-out-out Inv-loop μ-loop
+element-copy-out-out c = search needs
+
+add-out : tie.Need-add-out Inv-loop μ-loop
+add-out c = search needs
+
+slice-write-out : tie.Need-slice-write-out Inv-loop μ-loop
+slice-write-out c = search needs
+
+add-i : tie.Need-add-i Inv-loop μ-loop
+add-i c = search needs
+
+loop-less : tie.Need-loop-less Inv-loop μ-loop
+loop-less c = search needs
+
+loop-again : tie.Need-loop-again Inv-loop μ-loop
+loop-again c =
+    let turn = c .before .before in
+    let at-loop = turn .before in
+    let l = at-loop .loop in
+    let start = at-loop .before .before in
+    let a = start .args in (
+      search needs,
+      omega (arith, l .inv .1, fits turn, add-mul (l .i) 1 (a .b), one-mul (a .b)),
+      spread-more (a .table .now) (a .bits) (a .have) (a .b) (a .n) (a .out .now) (l .i) (l .out) _ (omega (arith, turn .loop-test .taken, start .pre))
+          (spread-code (a .table .now) (a .bits) (a .have) (a .b) (a .n) (a .out .now) (l .i) (l .left) (c .before .code .result) (l .inv .1) (c .before .code .ensures .0)) (l .inv .2),
+      simp length-set (l .inv .3),
+    )
+
+same-length : tie.Need-same-length Inv-loop μ-loop
+same-length c = c .before .loop .inv .3
+
+returns : tie.Need-returns Inv-loop μ-loop
+unfolding withBlock
+returns c =
+    let l = c .before .loop in
+    let all : l .i ≡ 8 = omega (arith, l .inv .0, c .loop-test .left) in
+    rw all at (l .inv .2)
+
+pub spread-spec : {M : Type 1} → statement M
+spread-spec =
+    tie.close
+    (tie.spec
+    Inv-loop
+    μ-loop
+    mul-left
+    add-left
+    loop-holds
+    sub-left
+    code-requires
+    element-copy-out-out
+    add-out
+    slice-write-out
+    add-i
+    loop-less
+    loop-again
+    same-length
+    returns)

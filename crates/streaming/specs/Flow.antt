@@ -1,0 +1,55 @@
+-- Within a call: what the stream's own functions promise each other. Document 01 says nothing of it.
+use Prim.Native.Nat.{ℕ, _+_, _-_, _*_, _/_, _%_, _^_, _≤_, _<_}
+use mathlib.Core.Path.{_≡_}
+use mathlib.Core.List.{List, _++_}
+use lib.ListN.{length, take, drop}
+use Rattle.bits.specs.Tables.{tabulate, at}
+use Rattle.bits.specs.Streams.{word}
+use Rattle.streaming.specs.Stream.{readsBy, sourceBits, used, statusOf}
+use Rattle.streaming.specs.declared.decoder.StreamingDecoder.{StreamingDecoder}
+use Rattle.streaming.specs.declared.decoder.Streamed.{Streamed}
+use Rattle.streaming.specs.declared.flow.Flow.{Flow}
+
+-- base i of a call
+unfoldable pub baseAt : StreamingDecoder → List ℕ → ℕ → ℕ
+baseAt s source i = readsBy s .symbol (word (sourceBits s source) (used s i) (readsBy s .width))
+
+-- memory with the first n bases of a call at its front
+unfoldable pub filled : StreamingDecoder → List ℕ → ℕ → List ℕ → List ℕ
+filled s source n memory = tabulate n (baseAt s source) ++ drop n memory
+
+-- with n bases written and `taken` bytes taken, `have` bits are taken and not used, and they write `acc`
+pub record Level (s : StreamingDecoder) (source : List ℕ) (acc have taken n : ℕ) : Type 0 where
+  pub place : used s n + have ≡ s .bits + taken * 8
+  pub within : taken ≤ length source
+  pub held : acc ≡ word (sourceBits s source) (used s n) have
+
+-- before the first base: no byte is taken that the skip does not need
+pub record Opened (s : StreamingDecoder) (source : List ℕ) (f : Flow) : Type 0 where
+  pub few : f .have < 8
+  pub level : Level s source (f .acc) (f .have) (f .taken) 0
+
+-- the answer where the loops of a call end, with n bases written and output memory for `room`
+unfoldable pub answeredBy : StreamingDecoder → ℕ → ℕ → ℕ → ℕ → ℕ → Streamed
+answeredBy s acc have taken n room =
+    Streamed.Moved taken n (statusOf (s .budget - n) (room - n))
+    (record { alphabet = s .alphabet; skip = 0; budget = s .budget - n; bits = have; pending = acc })
+
+-- ---- a block of eight bases
+
+-- the symbol of base i, whose code stands in a number of have + b * 8 bits
+abbrev pub blockBase : List ℕ → ℕ → ℕ → ℕ → ℕ → ℕ
+blockBase table bits have b i = at table (bits / 2 ^ (have + b * 8 - (i + 1) * b) % 2 ^ b)
+
+-- memory with m of them from place n on
+abbrev pub withBases : ℕ → List ℕ → ℕ → ℕ → ℕ → ℕ → List ℕ → List ℕ
+withBases m table bits have b n memory = (take n memory ++ tabulate m (blockBase table bits have b)) ++ drop (n + m) memory
+
+unfoldable pub withBlock : List ℕ → ℕ → ℕ → ℕ → ℕ → List ℕ → List ℕ
+withBlock = withBases 8
+
+-- ---- a run of bytes
+
+-- memory with `count` source bytes from place `from` on at its front
+unfoldable pub withRun : List ℕ → ℕ → ℕ → List ℕ → List ℕ
+withRun source from count memory = tabulate count (λ i. at source (from + i)) ++ drop count memory

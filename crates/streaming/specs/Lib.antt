@@ -1,0 +1,4 @@
+pub mod Stream
+pub mod Answers
+pub mod Count
+pub mod Flow

@@ -1,0 +1,10 @@
+// The stream: the bases of a stretch of packed bytes, fed in pieces.
+mod decoder;
+mod flow;
+mod shift;
+
+pub use decoder::Ended;
+pub use decoder::Status;
+pub use decoder::StreamStarted;
+pub use decoder::Streamed;
+pub use decoder::StreamingDecoder;
