@@ -1,3 +1,4 @@
 pub mod Told
 pub mod Front
 pub mod Hosted
+pub mod Flowing

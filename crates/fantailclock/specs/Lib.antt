@@ -1,3 +1,4 @@
 pub mod Shapes
 pub mod Kinds
 pub mod Encoders
+pub mod Streams

@@ -2,7 +2,9 @@
 mod encoders;
 mod guesses;
 mod kinds;
+mod reads;
 mod shapes;
+mod streams;
 
 pub use encoders::fc_byte_range_for_bases;
 pub use encoders::fc_encode_sequence;
@@ -17,3 +19,12 @@ pub use kinds::fc_abi_version;
 pub use kinds::fc_bits_per_symbol;
 pub use kinds::fc_contains;
 pub use kinds::fc_display_name;
+pub use reads::fc_decode_2bit;
+pub use reads::fc_decode_3bit;
+pub use reads::fc_decode_covered;
+pub use reads::fc_decode_rolling;
+pub use reads::fc_decode_string_from_bytes;
+pub use reads::fc_decode_substring_from_bytes;
+pub use reads::fc_decode_substring_from_bytes_at_offset;
+pub use streams::fc_stream_new;
+pub use streams::fc_stream_read;

@@ -62,3 +62,29 @@ pub struct Updated {
     pub count: u64,
     pub next: Encoder,
 }
+
+// A stream's state; `skip` is 0 once it is done.
+#[repr(C)]
+pub struct Stream {
+    pub alphabet: u64,
+    pub skip: u64,
+    pub budget: u64,
+    pub pending_bits: u64,
+    pub pending: u64,
+}
+
+#[repr(C)]
+pub struct StreamStarted {
+    pub refusal: u64,
+    pub next: Stream,
+}
+
+// `status` is 1 Hungry, 2 Done, 3 Full, and 0 on a refusal.
+#[repr(C)]
+pub struct Streamed {
+    pub refusal: u64,
+    pub taken: u64,
+    pub written: u64,
+    pub status: u64,
+    pub next: Stream,
+}

@@ -1,0 +1,30 @@
+use borrow.Author.Needs.{needs}
+use Rattle.fantailclock.proofs.Flowing.{start-fresh, start-refused}
+use Rattle.fantailclock.proofs.streams.fc_stream_new.Statement.{statement}
+use Rattle.fantailclock.proofs.streams.fc_stream_new.Tie as tie
+
+new-requires : tie.Need-new-requires
+new-requires c κs = search needs
+
+enum-told : tie.Need-enum-told
+enum-told c = search needs
+
+enum-known-refusal : tie.Need-enum-known-refusal
+enum-known-refusal c = search needs
+
+number-requires : tie.Need-number-requires
+number-requires c κs = search needs
+
+cast-t9 : tie.Need-cast-t9
+cast-t9 c = search needs
+
+returns : tie.Need-returns
+returns c = let a = c .before .before .before .args in start-fresh (a .alphabet) (a .skip) (a .budget) (c .before .before .new .result) _ (c .enum-told .given .1) (c .before .before .new .ensures)
+
+returns-2 : tie.Need-returns-2
+returns-2 c = let a = c .before .before .before .before .before .args in start-refused (a .alphabet) (a .skip) (a .budget) (c .before .before .before .before .new .result) _ (c .number .result) (c .before .before .refusal .given .1) (c .before .before .before .before .new .ensures) (c .number .ensures)
+
+pub fc-stream-new-spec : {M : Type 1} → statement M
+fc-stream-new-spec =
+    tie.close
+    (tie.spec new-requires enum-told enum-known-refusal number-requires cast-t9 returns returns-2)

@@ -1,0 +1,70 @@
+use mathlib.Core.Path.{sym, _∙_}
+use borrow.Author.Needs.{needs}
+use Rattle.fantailclock.proofs.Flowing.{stream-no, stream-moved, stream-refused}
+use Rattle.fantailclock.proofs.streams.fc_stream_read.Statement.{statement}
+use Rattle.fantailclock.proofs.streams.fc_stream_read.Tie as tie
+
+state-of-requires : tie.Need-state-of-requires
+state-of-requires c κs = search needs
+
+enum-known-stands : tie.Need-enum-known-stands
+enum-known-stands c = search needs
+
+enum-known-stands-2 : tie.Need-enum-known-stands-2
+enum-known-stands-2 c = search needs
+
+read-requires : tie.Need-read-requires
+read-requires c κs = search needs
+
+enum-known-taken : tie.Need-enum-known-taken
+enum-known-taken c = search needs
+
+status-of-requires : tie.Need-status-of-requires
+status-of-requires c κs = search needs
+
+stream-of-requires : tie.Need-stream-of-requires
+stream-of-requires c κs = search needs
+
+enum-known-refusal : tie.Need-enum-known-refusal
+enum-known-refusal c = search needs
+
+number-requires : tie.Need-number-requires
+number-requires c κs = search needs
+
+cast-t22 : tie.Need-cast-t22
+cast-t22 c = search needs
+
+returns : tie.Need-returns
+returns c = let a = c .before .before .before .before .before .before .args in stream-no (a .state) (a .source .now) (a .out .now) _ (sym (c .before .stands .given .1) ∙ c .before .before .before .state-of .ensures)
+
+same-length : tie.Need-same-length
+same-length c = search needs
+
+returns-2 : tie.Need-returns-2
+returns-2 c = let a = c .before .before .before .before .before .before .before .before .before .before .before .before .before .before .before .args in let k = c .before .before .before .before .before .before .before .read in stream-moved (a .state) (a .source .now) (a .out .now) _ (sym (c .before .before .before .before .before .before .before .before .before .before .stands2 .given .1) ∙ c .before .before .before .before .before .before .before .before .before .before .before .before .state-of .ensures) (k .result) _ _ _ _ (c .before .before .before .taken .given .1) (k .ensures .0) (c .before .status-of .result) (c .before .status-of .ensures) (c .stream-of .result) (c .stream-of .ensures) _ (k .ensures .1)
+
+same-length-2 : tie.Need-same-length-2
+same-length-2 c = search needs
+
+returns-3 : tie.Need-returns-3
+returns-3 c = let a = c .before .before .before .before .before .before .before .before .before .before .before .before .before .before .args in let k = c .before .before .before .before .before .before .read in stream-refused (a .state) (a .source .now) (a .out .now) _ (sym (c .before .before .before .before .before .before .before .before .before .stands2 .given .1) ∙ c .before .before .before .before .before .before .before .before .before .before .before .state-of .ensures) (k .result) _ _ (c .before .before .refusal .given .1) (k .ensures .0) (c .number .result) (c .number .ensures) _ (k .ensures .1)
+
+pub fc-stream-read-spec : {M : Type 1} → statement M
+fc-stream-read-spec =
+    tie.close
+    (tie.spec
+    state-of-requires
+    enum-known-stands
+    enum-known-stands-2
+    read-requires
+    enum-known-taken
+    status-of-requires
+    stream-of-requires
+    enum-known-refusal
+    number-requires
+    cast-t22
+    returns
+    same-length
+    returns-2
+    same-length-2
+    returns-3)

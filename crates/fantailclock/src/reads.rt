@@ -1,0 +1,171 @@
+// Reads of windows.
+use crate::shapes::Count;
+use windows::Read;
+use windows::decode_2bit;
+use windows::decode_3bit;
+use windows::decode_covered;
+use windows::decode_rolling;
+use windows::decode_string_from_bytes;
+use windows::decode_substring_from_bytes;
+use windows::decode_substring_from_bytes_at_offset;
+ghost use mathlib.Core.Path.{_≡_};
+ghost use lib.ListN.{length};
+ghost use Rattle.windows.specs.Window.{readAt, readMemory, coveredAt, coveredMemory};
+ghost use Rattle.windows.specs.Answers.{readReply};
+ghost use Rattle.fantailclock.specs.Shapes.{count};
+
+// A read's answer as numbers.
+fn count_of(read: Read) -> Count
+    ensures { λ r. ⌜ r ≡ count (readReply read) ⌝ }
+{
+    match read {
+        Read::Bases(bases) => Count {
+            refusal: 0,
+            count: bases as u64,
+        },
+        Read::Refused(refusal) => Count {
+            refusal: refusal.number() as u64,
+            count: 0,
+        },
+    }
+}
+
+// The bases from `start` to `end` of the file of which `bytes` are the bytes from `byte_offset` on; other bytes read as zero.
+#[no_mangle]
+pub extern "C" fn fc_decode_substring_from_bytes_at_offset(
+    alphabet: u64,
+    bytes: &[u8],
+    byte_offset: u64,
+    start: u64,
+    end: u64,
+    out: &mut [u8],
+) -> Count
+    ensures { λ r. ⌜ r ≡ count (readReply (readAt alphabet «byte_offset» start end (length (now (out .entry))))) ⌝ }
+    ensures memory { λ _. ⌜ now (out .exit) ≡ readMemory alphabet (now (bytes .entry)) «byte_offset» start end (now (out .entry)) ⌝ }
+{
+    count_of(decode_substring_from_bytes_at_offset(
+        alphabet,
+        bytes,
+        byte_offset as usize,
+        start as usize,
+        end as usize,
+        out,
+    ))
+}
+
+// The same where the lent bytes are the file's first.
+#[no_mangle]
+pub extern "C" fn fc_decode_substring_from_bytes(
+    alphabet: u64,
+    bytes: &[u8],
+    start: u64,
+    end: u64,
+    out: &mut [u8],
+) -> Count
+    ensures { λ r. ⌜ r ≡ count (readReply (readAt alphabet 0 start end (length (now (out .entry))))) ⌝ }
+    ensures memory { λ _. ⌜ now (out .exit) ≡ readMemory alphabet (now (bytes .entry)) 0 start end (now (out .entry)) ⌝ }
+{
+    count_of(decode_substring_from_bytes(alphabet, bytes, start as usize, end as usize, out))
+}
+
+// The first `seq_len` bases.
+#[no_mangle]
+pub extern "C" fn fc_decode_string_from_bytes(
+    alphabet: u64,
+    bytes: &[u8],
+    seq_len: u64,
+    out: &mut [u8],
+) -> Count
+    ensures { λ r. ⌜ r ≡ count (readReply (readAt alphabet 0 0 «seq_len» (length (now (out .entry))))) ⌝ }
+    ensures memory { λ _. ⌜ now (out .exit) ≡ readMemory alphabet (now (bytes .entry)) 0 0 «seq_len» (now (out .entry)) ⌝ }
+{
+    count_of(decode_string_from_bytes(alphabet, bytes, seq_len as usize, out))
+}
+
+// The covered read: refused by 3 where a byte of the window's range is not lent.
+#[no_mangle]
+pub extern "C" fn fc_decode_covered(
+    alphabet: u64,
+    bytes: &[u8],
+    byte_offset: u64,
+    start: u64,
+    end: u64,
+    out: &mut [u8],
+) -> Count
+    ensures { λ r. ⌜ r ≡ count (readReply (coveredAt alphabet (now (bytes .entry)) «byte_offset» start end (length (now (out .entry))))) ⌝ }
+    ensures memory { λ _. ⌜ now (out .exit) ≡ coveredMemory alphabet (now (bytes .entry)) «byte_offset» start end (now (out .entry)) ⌝ }
+{
+    count_of(decode_covered(
+        alphabet,
+        bytes,
+        byte_offset as usize,
+        start as usize,
+        end as usize,
+        out,
+    ))
+}
+
+// The rolling engine.
+#[no_mangle]
+pub extern "C" fn fc_decode_rolling(
+    alphabet: u64,
+    bytes: &[u8],
+    byte_offset: u64,
+    start: u64,
+    end: u64,
+    out: &mut [u8],
+) -> Count
+    ensures { λ r. ⌜ r ≡ count (readReply (readAt alphabet «byte_offset» start end (length (now (out .entry))))) ⌝ }
+    ensures memory { λ _. ⌜ now (out .exit) ≡ readMemory alphabet (now (bytes .entry)) «byte_offset» start end (now (out .entry)) ⌝ }
+{
+    count_of(decode_rolling(
+        alphabet,
+        bytes,
+        byte_offset as usize,
+        start as usize,
+        end as usize,
+        out,
+    ))
+}
+
+// The engine of Dna2bit.
+#[no_mangle]
+pub extern "C" fn fc_decode_2bit(
+    bytes: &[u8],
+    byte_offset: u64,
+    start: u64,
+    end: u64,
+    out: &mut [u8],
+) -> Count
+    ensures { λ r. ⌜ r ≡ count (readReply (readAt 0 «byte_offset» start end (length (now (out .entry))))) ⌝ }
+    ensures memory { λ _. ⌜ now (out .exit) ≡ readMemory 0 (now (bytes .entry)) «byte_offset» start end (now (out .entry)) ⌝ }
+{
+    count_of(decode_2bit(
+        bytes,
+        byte_offset as usize,
+        start as usize,
+        end as usize,
+        out,
+    ))
+}
+
+// The engine of Dna3bit.
+#[no_mangle]
+pub extern "C" fn fc_decode_3bit(
+    bytes: &[u8],
+    byte_offset: u64,
+    start: u64,
+    end: u64,
+    out: &mut [u8],
+) -> Count
+    ensures { λ r. ⌜ r ≡ count (readReply (readAt 1 «byte_offset» start end (length (now (out .entry))))) ⌝ }
+    ensures memory { λ _. ⌜ now (out .exit) ≡ readMemory 1 (now (bytes .entry)) «byte_offset» start end (now (out .entry)) ⌝ }
+{
+    count_of(decode_3bit(
+        bytes,
+        byte_offset as usize,
+        start as usize,
+        end as usize,
+        out,
+    ))
+}
