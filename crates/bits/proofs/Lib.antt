@@ -4,3 +4,4 @@ pub mod Words
 pub mod Packed
 pub mod Hand
 pub mod Rolling
+pub mod Appended

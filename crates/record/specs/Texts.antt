@@ -1,0 +1,40 @@
+-- Texts and the bytes that pack them. States the words of demand 3's sentences on an accepted `finalize` and on equal packed bytes.
+use Prim.Native.Nat.{ℕ, _*_, _≤_, _<_}
+use mathlib.Core.Path.{_≡_}
+use mathlib.Core.Bool.{true}
+use mathlib.Core.List.{List, _++_, map}
+use lib.ListN.{length}
+use Rattle.bits.specs.Tables.{at}
+use Rattle.bits.specs.Packing.{bytesFor}
+use Rattle.bits.specs.Memory.{front}
+use Rattle.alphabet.specs.declared.kind.AlphabetType.{AlphabetType}
+use Rattle.alphabet.specs.Questions.{limit}
+use Rattle.alphabet.specs.Symbols.{Coding, coding}
+use Rattle.alphabet.specs.Names.{numberOf}
+use Rattle.packing.specs.declared.sequence.Encoded.{Encoded}
+use Rattle.packing.specs.Encode.{packing, encodeAt, encodeMemory}
+
+-- every byte of a text is a member
+abbrev pub Members : Coding → List ℕ → Type 0
+Members A text = (i : ℕ) → i < length text → A .member (at text i) ≡ true
+
+-- u is t followed by zero or more symbols of code zero; each byte counts as the symbol that it stands for
+pub record Extends (A : Coding) (t u : List ℕ) : Type 0 where
+  pub more : List ℕ
+  pub zeros : (i : ℕ) → i < length more → A .code (at more i) ≡ 0
+  pub members : Members A more
+  pub joined : map (A .canon) u ≡ map (A .canon) (t ++ more)
+
+-- a text, and the bytes that pack it
+pub record Packed (k : AlphabetType) (text packed : List ℕ) : Type 0 where
+  -- n members of one alphabet, n at most 2^60
+  pub members : Members (coding k) text
+  pub bounded : length text ≤ limit
+  -- ceil(n · b / 8) bytes, and these
+  pub counted : length packed ≡ bytesFor (length text * coding k .width)
+  pub packs : packed ≡ packing (coding k) text
+  -- `encode_sequence` gives the same, in any memory that is long enough
+  pub at-once :
+      (memory : List ℕ) →
+      length packed ≤ length memory →
+      (encodeAt (numberOf k) text (length memory) ≡ Encoded.Wrote (length packed)) × (encodeMemory (numberOf k) text memory ≡ front packed memory)
