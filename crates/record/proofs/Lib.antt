@@ -1,2 +1,3 @@
 pub mod Worked
 pub mod States
+pub mod Tallies
