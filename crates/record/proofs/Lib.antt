@@ -1,3 +1,4 @@
 pub mod Worked
 pub mod States
 pub mod Tallies
+pub mod CodeCalls

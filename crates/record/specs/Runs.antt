@@ -15,7 +15,7 @@ nextEncoder (Updated.Wrote count next) = next
 nextEncoder (Updated.Refused q next) = next
 
 -- what follows a `finalize`: from the state that a refused one returns, and nothing once it is accepted
-abbrev pub unlessFinal : {A : Type 0} → Finalized → A → (SequenceEncoder → A) → A
+abbrev pub unlessFinal {ℓ} : {A : Type ℓ} → Finalized → A → (SequenceEncoder → A) → A
 unlessFinal (Finalized.Wrote count) none rest = none
 unlessFinal (Finalized.Refused q next) none rest = rest next
 
