@@ -2,3 +2,4 @@ pub mod Worked
 pub mod States
 pub mod Tallies
 pub mod CodeCalls
+pub mod Whole

@@ -7,10 +7,9 @@ use lib.ListN.{length}
 use Rattle.bits.specs.Tables.{at}
 use Rattle.bits.specs.Packing.{bytesFor}
 use Rattle.bits.specs.Memory.{front}
-use Rattle.alphabet.specs.declared.kind.AlphabetType.{AlphabetType}
 use Rattle.alphabet.specs.Questions.{limit}
-use Rattle.alphabet.specs.Symbols.{Coding, coding}
-use Rattle.alphabet.specs.Names.{numberOf}
+use Rattle.alphabet.specs.Symbols.{Coding}
+use Rattle.alphabet.specs.Names.{numbered}
 use Rattle.packing.specs.declared.sequence.Encoded.{Encoded}
 use Rattle.packing.specs.Encode.{packing, encodeAt, encodeMemory}
 
@@ -25,16 +24,16 @@ pub record Extends (A : Coding) (t u : List ℕ) : Type 0 where
   pub members : Members A more
   pub joined : map (A .canon) u ≡ map (A .canon) (t ++ more)
 
--- a text, and the bytes that pack it
-pub record Packed (k : AlphabetType) (text packed : List ℕ) : Type 0 where
+-- a text, and the bytes that pack it by the alphabet of a known number
+pub record Packed (alphabet : ℕ) (text packed : List ℕ) : Type 0 where
   -- n members of one alphabet, n at most 2^60
-  pub members : Members (coding k) text
+  pub members : Members (numbered alphabet) text
   pub bounded : length text ≤ limit
   -- ceil(n · b / 8) bytes, and these
-  pub counted : length packed ≡ bytesFor (length text * coding k .width)
-  pub packs : packed ≡ packing (coding k) text
+  pub counted : length packed ≡ bytesFor (length text * numbered alphabet .width)
+  pub packs : packed ≡ packing (numbered alphabet) text
   -- `encode_sequence` gives the same, in any memory that is long enough
   pub at-once :
       (memory : List ℕ) →
       length packed ≤ length memory →
-      (encodeAt (numberOf k) text (length memory) ≡ Encoded.Wrote (length packed)) × (encodeMemory (numberOf k) text memory ≡ front packed memory)
+      (encodeAt alphabet text (length memory) ≡ Encoded.Wrote (length packed)) × (encodeMemory alphabet text memory ≡ front packed memory)
