@@ -5,3 +5,4 @@ pub mod Packed
 pub mod Hand
 pub mod Rolling
 pub mod Appended
+pub mod Alike
