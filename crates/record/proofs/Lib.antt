@@ -3,3 +3,4 @@ pub mod States
 pub mod Tallies
 pub mod CodeCalls
 pub mod Whole
+pub mod Alike

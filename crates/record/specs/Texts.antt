@@ -21,7 +21,6 @@ Members A text = (i : ℕ) → i < length text → A .member (at text i) ≡ tru
 pub record Extends (A : Coding) (t u : List ℕ) : Type 0 where
   pub more : List ℕ
   pub zeros : (i : ℕ) → i < length more → A .code (at more i) ≡ 0
-  pub members : Members A more
   pub joined : map (A .canon) u ≡ map (A .canon) (t ++ more)
 
 -- a text, and the bytes that pack it by the alphabet of a known number
