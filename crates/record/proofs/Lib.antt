@@ -1,6 +1,7 @@
 pub mod Worked
 pub mod States
 pub mod Tallies
-pub mod CodeCalls
 pub mod Whole
 pub mod Alike
+pub mod AtOnce
+pub mod Encoders

@@ -5,29 +5,27 @@ use mathlib.Core.List.{List, [], _∷_, _++_, append-nil, append-assoc, map-appe
 use Prim.Native.Nat.{ℕ, zero, suc, _+_, _-_, _*_, _/_, _%_, _^_, _≤_, _<_}
 use native.Mathlib.Nat.{add-mul, zero-mul, le-of-suc-le-suc, not-suc-le-zero}
 use native.Mathlib.Omega.{arith}
-use borrow.Author.Tests.{leb-true, le-leb, eqb-true, eqb-false, eq-eqb}
-use lib.Dec.{leb, ltb, eqb, eqb·zero-suc, eqb·suc-suc}
+use borrow.Author.Tests.{leb-true, eqb-true, eqb-false}
+use lib.Dec.{leb, ltb, eqb}
 use lib.ListN.{length, take, drop, length-append, length-map, length-drop, take-append-drop, drop-of-length-le}
 use lib.Seq.{take-at, drop-drop, length-take-le}
 use Rattle.bits.specs.Tables.{at}
 use Rattle.bits.specs.Streams.{bitAt, cut}
 use Rattle.bits.specs.Packing.{bytesFor}
 use Rattle.bits.specs.Memory.{front}
-use Rattle.bits.proofs.Appended.{cut-moved, part-cut, bits-left, length-cut}
+use Rattle.bits.proofs.Appended.{cut-moved, part-cut, bits-left}
 use Rattle.alphabet.specs.declared.kind.AlphabetType.{AlphabetType}
-use Rattle.alphabet.specs.Questions.{ask_else_then_, by, limit, inBounds, Reply, accepted, refused, valueIn}
+use Rattle.alphabet.specs.Questions.{ask_else_then_, limit, inBounds, Reply, accepted, refused, valueIn}
 use Rattle.alphabet.specs.Symbols.{Coding, coding}
-use Rattle.alphabet.specs.Names.{known, kindOf, numbered}
+use Rattle.alphabet.specs.Names.{kindOf, numbered}
 use Rattle.alphabet.proofs.Laws.{lawful}
-use Rattle.packing.specs.declared.first.First.{First}
-use Rattle.packing.specs.declared.sequence.Encoded.{Encoded}
-use Rattle.packing.specs.Encode.{digitOf, digitsOf, packing, firstFrom, unlessBad, encodeAt, encodeWrites, encodeMemory, freshEncoder}
+use Rattle.packing.specs.Encode.{digitOf, digitsOf, packing, freshEncoder}
 use Rattle.record.specs.Calls.{Call, update, finalize, Outcome, isAccepted, written, acceptedText, finished}
 use Rattle.record.specs.Tally.{textPacked, bytesFilled, membersAhead, Turn, stay, completes, updateTurn, finalizeTurn, shown, tally}
 use Rattle.record.specs.Runs.{run}
 use Rattle.record.specs.Texts.{Members, Packed}
 use Rattle.record.proofs.States.{textBits, length-both}
-use Rattle.record.proofs.Tallies.{same-packing, packing-cut, length-packing, first-ahead, fresh-tally}
+use Rattle.record.proofs.Tallies.{same-packing, packing-cut, length-packing, fresh-tally}
 
 -- from a text on, to the end of a list: the text grew by `more`, all of it is members, and these bytes of its packing were written
 record Reaches (A : Coding) (text more bytes : List ℕ) : Type 0 where
@@ -49,26 +47,6 @@ all-members A (x ∷ text) e = go (A .member x) refl e (all-members A text)
     go true m e ih zero h = m
     go true m e ih (suc i) h = ih (omega arith) i (le-of-suc-le-suc h)
     go false m e ih i h = absurd (omega arith)
-
-encode-all :
-    (alphabet : ℕ) (text : List ℕ) →
-    known alphabet ≡ true →
-    length text ≤ limit →
-    membersAhead (numbered alphabet) text ≡ length text →
-    (memory : List ℕ) →
-    bytesFor (length text * numbered alphabet .width) ≤ length memory →
-    (encodeAt alphabet text (length memory) ≡ Encoded.Wrote (bytesFor (length text * numbered alphabet .width)))
-    × (encodeMemory alphabet text memory ≡ front (packing (numbered alphabet) text) memory)
-unfolding encodeAt encodeWrites encodeMemory
-encode-all alphabet text o h m memory room =
-    let b : ℕ = numbered alphabet .width in
-    let none : firstFrom (numbered alphabet) 0 text ≡ First.Nothing =
-    first-ahead (numbered alphabet) 0 text
-    ∙ ap (λ (x : Bool). cond x First.Nothing (First.At (0 + membersAhead (numbered alphabet) text) (at text (membersAhead (numbered alphabet) text)))) (eq-eqb (membersAhead (numbered alphabet) text) (length text) m) in
-    (
-      rw (o, le-leb (length text) limit h, le-leb (bytesFor (length text * b)) (length memory) room, none),
-      rw (o, le-leb (length text) limit h, le-leb (bytesFor (length text * b)) (length memory) room, none),
-    )
 
 accepted-nil : (cs : List Call) → acceptedText cs [] ≡ []
 unfolding acceptedText
@@ -224,30 +202,21 @@ module _ (k : AlphabetType) where
 
 -- after an accepted `finalize`
 pub fresh-packs :
-    (alphabet : ℕ) →
-    known alphabet ≡ true →
-    (cs : List Call) →
+    (alphabet : ℕ) (cs : List Call) →
     finished cs (run (freshEncoder (kindOf alphabet)) cs) ≡ true →
     Packed alphabet (acceptedText cs (run (freshEncoder (kindOf alphabet)) cs)) (written 0 (run (freshEncoder (kindOf alphabet)) cs))
-fresh-packs alphabet o cs e = rw told (packed (tally (numbered alphabet) [] cs) (whole k [] cs (omega arith) (rw told at e)))
+fresh-packs alphabet cs e = rw told (packed (tally (numbered alphabet) [] cs) (whole (kindOf alphabet) [] cs (omega arith) (rw told at e)))
   where
-    k : AlphabetType
-    k = kindOf alphabet
-
-    told : run (freshEncoder k) cs ≡ tally (numbered alphabet) [] cs
-    told = fresh-tally k cs
+    told : run (freshEncoder (kindOf alphabet)) cs ≡ tally (numbered alphabet) [] cs
+    told = fresh-tally (kindOf alphabet) cs
 
     packed : (os : List Outcome) → Reaches (numbered alphabet) [] (acceptedText cs os) (written 0 os) → Packed alphabet (acceptedText cs os) (written 0 os)
     packed os r =
         let bytes : written 0 os ≡ packing (numbered alphabet) (acceptedText cs os) =
-        r .wrote ∙ ap (λ (j : ℕ). drop (j / 8) (packing (numbered alphabet) (acceptedText cs os))) (zero-mul ((numbered alphabet) .width)) in
-        let count : length (written 0 os) ≡ bytesFor (length (acceptedText cs os) * (numbered alphabet) .width) = ap length bytes ∙ length-packing (numbered alphabet) (acceptedText cs os) in
+        r .wrote ∙ ap (λ (j : ℕ). drop (j / 8) (packing (numbered alphabet) (acceptedText cs os))) (zero-mul (numbered alphabet .width)) in
         record {
           members = all-members (numbered alphabet) (acceptedText cs os) (r .all);
           bounded = r .fits;
-          counted = count;
+          counted = ap length bytes ∙ length-packing (numbered alphabet) (acceptedText cs os);
           packs = bytes;
-          at-once = λ memory room.
-              let one = encode-all alphabet (acceptedText cs os) o (r .fits) (r .all) memory (omega (arith, count)) in
-              (one .0 ∙ ap Encoded.Wrote (sym count), one .1 ∙ ap (λ (l : List ℕ). front l memory) (sym bytes));
         }

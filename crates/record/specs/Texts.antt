@@ -6,12 +6,10 @@ use mathlib.Core.List.{List, _++_, map}
 use lib.ListN.{length}
 use Rattle.bits.specs.Tables.{at}
 use Rattle.bits.specs.Packing.{bytesFor}
-use Rattle.bits.specs.Memory.{front}
 use Rattle.alphabet.specs.Questions.{limit}
 use Rattle.alphabet.specs.Symbols.{Coding}
 use Rattle.alphabet.specs.Names.{numbered}
-use Rattle.packing.specs.declared.sequence.Encoded.{Encoded}
-use Rattle.packing.specs.Encode.{packing, encodeAt, encodeMemory}
+use Rattle.packing.specs.Encode.{packing}
 
 -- every byte of a text is a member
 abbrev pub Members : Coding → List ℕ → Type 0
@@ -31,8 +29,3 @@ pub record Packed (alphabet : ℕ) (text packed : List ℕ) : Type 0 where
   -- ceil(n · b / 8) bytes, and these
   pub counted : length packed ≡ bytesFor (length text * numbered alphabet .width)
   pub packs : packed ≡ packing (numbered alphabet) text
-  -- `encode_sequence` gives the same, in any memory that is long enough
-  pub at-once :
-      (memory : List ℕ) →
-      length packed ≤ length memory →
-      (encodeAt alphabet text (length memory) ≡ Encoded.Wrote (length packed)) × (encodeMemory alphabet text memory ≡ front packed memory)
