@@ -43,25 +43,23 @@ module _ (alphabet : ℕ) (text : List ℕ) where
   -- a text that is packed, in memory that is long enough
   pub encode-packed :
       (packed memory : List ℕ) →
-      known alphabet ≡ true →
       Packed alphabet text packed →
       length packed ≤ length memory →
       (encodeAt alphabet text (length memory) ≡ Encoded.Wrote (length packed)) × (encodeMemory alphabet text memory ≡ front packed memory)
   unfolding encodeAt encodeWrites encodeMemory
-  encode-packed packed memory o p room =
+  encode-packed packed memory p room =
       let bounds : inBounds (length text) ≡ true = le-leb (length text) limit (p .bounded) in
       let fits : leb need (length memory) ≡ true = le-leb need (length memory) (omega (arith, p .counted)) in
-      let none : firstFrom (numbered alphabet) 0 text ≡ First.Nothing = members-none (numbered alphabet) 0 text (p .members) in
-      (
-        rw (o, bounds, fits, none) (ap Encoded.Wrote (sym (p .counted))),
-        rw (o, bounds, fits, none) (ap (λ (l : List ℕ). front l memory) (sym (p .packs))),
+      let none : firstFrom (numbered alphabet) 0 text ≡ First.Nothing = members-none (numbered alphabet) 0 text (p .members) in (
+        rw (p .has-alphabet, bounds, fits, none) (ap Encoded.Wrote (sym (p .counted))),
+        rw (p .has-alphabet, bounds, fits, none) (ap (λ (l : List ℕ). front l memory) (sym (p .packs))),
       )
 
   -- and an accepted call packs its text
   pub encode-accepted : (memory : List ℕ) (count : ℕ) → encodeAt alphabet text (length memory) ≡ Encoded.Wrote count → Packed alphabet text (take count (encodeMemory alphabet text memory))
   unfolding encodeAt encodeWrites encodeMemory
   encode-accepted memory count e =
-      by-cases (known alphabet) (inBounds (length text)) (leb need (length memory)) (firstFrom (numbered alphabet) 0 text) refl refl e
+      by-cases (known alphabet) (inBounds (length text)) (leb need (length memory)) (firstFrom (numbered alphabet) 0 text) refl refl refl e
     where
       answer : Bool → Bool → Bool → First → Encoded
       answer a b c f =
@@ -70,24 +68,25 @@ module _ (alphabet : ℕ) (text : List ℕ) where
           ask c else Encoded.Refused (by 4 []) then
           unlessBad f (λ position byte. Encoded.Refused (by 5 (position ∷ byte ∷ []))) (Encoded.Wrote need)
 
-
       by-cases :
           (a b c : Bool) (f : First) →
+          known alphabet ≡ a →
           inBounds (length text) ≡ b →
           firstFrom (numbered alphabet) 0 text ≡ f →
           answer a b c f ≡ Encoded.Wrote count →
           Packed alphabet text (take count (front (encodeWrites alphabet text (answer a b c f)) memory))
-      by-cases true true true First.Nothing h n q =
+      by-cases true true true First.Nothing o h n q =
           let same : need ≡ count = cc in
           let len : length (packing (numbered alphabet) text) ≡ count = length-packing (numbered alphabet) text ∙ same in
           rw (take-at (packing (numbered alphabet) text) (drop (length (packing (numbered alphabet) text)) memory) count len)
           (record {
+            has-alphabet = o;
             members = none-members (numbered alphabet) 0 text n;
             bounded = leb-true (length text) limit h;
             counted = length-packing (numbered alphabet) text;
             packs = refl;
           })
-      by-cases true true true (First.At position byte) h n q = let z : _≡_ {A = ℕ} 0 1 = cc in absurd (omega arith)
-      by-cases true true false f h n q = let z : _≡_ {A = ℕ} 0 1 = cc in absurd (omega arith)
-      by-cases true false c f h n q = let z : _≡_ {A = ℕ} 0 1 = cc in absurd (omega arith)
-      by-cases false b c f h n q = let z : _≡_ {A = ℕ} 0 1 = cc in absurd (omega arith)
+      by-cases true true true (First.At position byte) o h n q = let z : _≡_ {A = ℕ} 0 1 = cc in absurd (omega arith)
+      by-cases true true false f o h n q = let z : _≡_ {A = ℕ} 0 1 = cc in absurd (omega arith)
+      by-cases true false c f o h n q = let z : _≡_ {A = ℕ} 0 1 = cc in absurd (omega arith)
+      by-cases false b c f o h n q = let z : _≡_ {A = ℕ} 0 1 = cc in absurd (omega arith)

@@ -21,8 +21,8 @@ use Rattle.record.specs.Runs.{nextEncoder, unlessFinal, run}
 use Rattle.record.specs.Tally.{tally}
 use Rattle.record.specs.Texts.{Packed}
 use Rattle.record.specs.Made.{NewCall, UpdateCall, FinalizeCall, EncodeCall}
-use Rattle.record.specs.EncoderLists.{CodeCall, updates, finalizes, Ends, Follows, callsOf, outcomesOf, EncoderList, numberIn, Finished, textIn, bytesIn}
-use Rattle.record.specs.EncoderRecord.{numberFor, textFor, before, afterwards, EncoderRecord}
+use Rattle.record.specs.EncoderLists.{CodeCall, updates, finalizes, Ends, Follows, callsOf, outcomesOf, EncoderList, alphabetIn, Finished, textIn, bytesIn}
+use Rattle.record.specs.EncoderRecord.{alphabetFor, textFor, before, afterwards, EncoderRecord}
 use Rattle.record.proofs.Tallies.{fresh-tally}
 use Rattle.record.proofs.Whole.{fresh-packs}
 use Rattle.record.proofs.AtOnce.{encode-packed, encode-accepted}
@@ -74,49 +74,47 @@ started-fresh n s e = go (known n) e
     go false q = let z : _≡_ {A = ℕ} 0 1 = cc in absurd (omega arith)
 
 module _ (l : EncoderList) where
-  fresh-known : known (numberIn l) ≡ true
-  fresh-known = started-fresh (numberIn l) (l .fresh) (sym (l .new .met) ∙ l .started) .0
+  fresh-known : known (alphabetIn l) ≡ true
+  fresh-known = started-fresh (alphabetIn l) (l .fresh) (sym (l .new .met) ∙ l .started) .0
 
-  list-run : outcomesOf (l .calls) ≡ run (freshEncoder (kindOf (numberIn l))) (callsOf (l .calls))
+  list-run : outcomesOf (l .calls) ≡ run (freshEncoder (kindOf (alphabetIn l))) (callsOf (l .calls))
   list-run =
       code-run (l .fresh) (l .calls) (l .follows)
-      ∙ ap (λ (s : SequenceEncoder). run s (callsOf (l .calls))) (sym (started-fresh (numberIn l) (l .fresh) (sym (l .new .met) ∙ l .started) .1))
+      ∙ ap (λ (s : SequenceEncoder). run s (callsOf (l .calls))) (sym (started-fresh (alphabetIn l) (l .fresh) (sym (l .new .met) ∙ l .started) .1))
 
-  list-packs : Finished l → Packed (numberIn l) (textIn l) (bytesIn l)
+  list-packs : Finished l → Packed (alphabetIn l) (textIn l) (bytesIn l)
   list-packs h =
-      subst (λ (os : List Outcome). Packed (numberIn l) (acceptedText (callsOf (l .calls)) os) (written 0 os)) (sym list-run)
-      (fresh-packs (numberIn l) (callsOf (l .calls)) (ap (finished (callsOf (l .calls))) (sym list-run) ∙ h))
+      subst (λ (os : List Outcome). Packed (alphabetIn l) (acceptedText (callsOf (l .calls)) os) (written 0 os)) (sym list-run)
+      (fresh-packs (alphabetIn l) fresh-known (callsOf (l .calls)) (ap (finished (callsOf (l .calls))) (sym list-run) ∙ h))
 
 -- ---- `encode_sequence`
 
 once-packed :
     (e : EncodeCall) (alphabet : ℕ) (text packed : List ℕ) →
-    known alphabet ≡ true →
     Packed alphabet text packed →
-    numberFor e ≡ alphabet →
+    alphabetFor e ≡ alphabet →
     textFor e ≡ text →
     length packed ≤ length (before e) →
     (e .result ≡ Encoded.Wrote (length packed)) × (afterwards e ≡ front packed (before e))
-once-packed e alphabet text packed o p a t room =
-    let one = encode-packed alphabet text packed (before e) o p room in
-    (
+once-packed e alphabet text packed p a t room =
+    let one = encode-packed alphabet text packed (before e) p room in (
       e .met .0 ∙ ap₂ (λ (x : ℕ) (y : List ℕ). encodeAt x y (length (before e))) a t ∙ one .0,
       e .met .1 ∙ ap₂ (λ (x : ℕ) (y : List ℕ). encodeMemory x y (before e)) a t ∙ one .1,
     )
 
-once-accepted : (e : EncodeCall) (count : ℕ) → e .result ≡ Encoded.Wrote count → Packed (numberFor e) (textFor e) (take count (afterwards e))
+once-accepted : (e : EncodeCall) (count : ℕ) → e .result ≡ Encoded.Wrote count → Packed (alphabetFor e) (textFor e) (take count (afterwards e))
 once-accepted e count r =
-    subst (λ (m : List ℕ). Packed (numberFor e) (textFor e) (take count m)) (sym (e .met .1))
-    (encode-accepted (numberFor e) (textFor e) (before e) count (sym (e .met .0) ∙ r))
+    subst (λ (m : List ℕ). Packed (alphabetFor e) (textFor e) (take count m)) (sym (e .met .1))
+    (encode-accepted (alphabetFor e) (textFor e) (before e) count (sym (e .met .0) ∙ r))
 
 -- ---- the claim
 
 pub encoder-record : EncoderRecord
 encoder-record =
     record {
-      tallied = λ l. list-run l ∙ fresh-tally (kindOf (numberIn l)) (callsOf (l .calls));
+      tallied = λ l. list-run l ∙ fresh-tally (kindOf (alphabetIn l)) (callsOf (l .calls));
       packs = list-packs;
-      at-once = λ l h e. once-packed e (numberIn l) (textIn l) (bytesIn l) (fresh-known l) (list-packs l h);
+      at-once = λ l h e. once-packed e (alphabetIn l) (textIn l) (bytesIn l) (list-packs l h);
       encodes = once-accepted;
       alike = λ alphabet. alike (kindOf alphabet);
     }

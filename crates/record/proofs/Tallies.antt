@@ -152,7 +152,7 @@ module _ (k : AlphabetType) (text : List ℕ) where
       length text ≤ limit →
       finalizeAt (stateOf k text) room
       ≡ (ask eqb (membersAhead (coding k) text) (length text)
-        else Finalized.Refused (by 5 (membersAhead (coding k) text ∷ at text (membersAhead (coding k) text) ∷ [])) (stateOf k text) then
+      else Finalized.Refused (by 5 (membersAhead (coding k) text ∷ at text (membersAhead (coding k) text) ∷ [])) (stateOf k text) then
       ask leb (bytesFor pends) room else Finalized.Refused (by 4 []) (stateOf k text) then
       Finalized.Wrote (bytesFor pends))
   unfolding finalizeAt stateOf

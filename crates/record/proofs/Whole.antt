@@ -17,7 +17,7 @@ use Rattle.bits.proofs.Appended.{cut-moved, part-cut, bits-left}
 use Rattle.alphabet.specs.declared.kind.AlphabetType.{AlphabetType}
 use Rattle.alphabet.specs.Questions.{ask_else_then_, limit, inBounds, Reply, accepted, refused, valueIn}
 use Rattle.alphabet.specs.Symbols.{Coding, coding}
-use Rattle.alphabet.specs.Names.{kindOf, numbered}
+use Rattle.alphabet.specs.Names.{known, kindOf, numbered}
 use Rattle.alphabet.proofs.Laws.{lawful}
 use Rattle.packing.specs.Encode.{digitOf, digitsOf, packing, freshEncoder}
 use Rattle.record.specs.Calls.{Call, update, finalize, Outcome, isAccepted, written, acceptedText, finished}
@@ -202,10 +202,12 @@ module _ (k : AlphabetType) where
 
 -- after an accepted `finalize`
 pub fresh-packs :
-    (alphabet : ℕ) (cs : List Call) →
+    (alphabet : ℕ) →
+    known alphabet ≡ true →
+    (cs : List Call) →
     finished cs (run (freshEncoder (kindOf alphabet)) cs) ≡ true →
     Packed alphabet (acceptedText cs (run (freshEncoder (kindOf alphabet)) cs)) (written 0 (run (freshEncoder (kindOf alphabet)) cs))
-fresh-packs alphabet cs e = rw told (packed (tally (numbered alphabet) [] cs) (whole (kindOf alphabet) [] cs (omega arith) (rw told at e)))
+fresh-packs alphabet o cs e = rw told (packed (tally (numbered alphabet) [] cs) (whole (kindOf alphabet) [] cs (omega arith) (rw told at e)))
   where
     told : run (freshEncoder (kindOf alphabet)) cs ≡ tally (numbered alphabet) [] cs
     told = fresh-tally (kindOf alphabet) cs
@@ -215,6 +217,7 @@ fresh-packs alphabet cs e = rw told (packed (tally (numbered alphabet) [] cs) (w
         let bytes : written 0 os ≡ packing (numbered alphabet) (acceptedText cs os) =
         r .wrote ∙ ap (λ (j : ℕ). drop (j / 8) (packing (numbered alphabet) (acceptedText cs os))) (zero-mul (numbered alphabet .width)) in
         record {
+          has-alphabet = o;
           members = all-members (numbered alphabet) (acceptedText cs os) (r .all);
           bounded = r .fits;
           counted = ap length bytes ∙ length-packing (numbered alphabet) (acceptedText cs os);

@@ -49,8 +49,8 @@ pub record EncoderList : Type 0 where
   pub follows : Follows fresh calls
 
 -- the alphabet number that `new` was handed
-abbrev pub numberIn : EncoderList → ℕ
-numberIn l = l .new .args .0
+abbrev pub alphabetIn : EncoderList → ℕ
+alphabetIn l = l .new .args .0
 
 -- a `finalize` of the list was accepted
 abbrev pub Finished : EncoderList → Type 0

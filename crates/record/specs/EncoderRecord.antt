@@ -12,12 +12,12 @@ use Rattle.packing.specs.declared.sequence.Encoded.{Encoded}
 use Rattle.record.specs.Tally.{tally}
 use Rattle.record.specs.Texts.{Members, Extends, Packed}
 use Rattle.record.specs.Made.{EncodeCall}
-use Rattle.record.specs.EncoderLists.{EncoderList, callsOf, outcomesOf, numberIn, Finished, textIn, bytesIn}
+use Rattle.record.specs.EncoderLists.{EncoderList, callsOf, outcomesOf, alphabetIn, Finished, textIn, bytesIn}
 
 -- ---- a call of `encode_sequence`: its alphabet number, its text, and its memory before and afterwards
 
-abbrev pub numberFor : EncodeCall → ℕ
-numberFor e = e .args .0
+abbrev pub alphabetFor : EncodeCall → ℕ
+alphabetFor e = e .args .0
 
 abbrev pub textFor : EncodeCall → List ℕ
 textFor e = now (e .args .1 .0)
@@ -33,21 +33,21 @@ afterwards e = now (e .exit .1 .1 .0)
 pub record EncoderRecord : Type 0 where
   -- for every list of `update` and `finalize` calls from a fresh encoder, refused ones included, each call's count or refusal, and the bytes it writes, are
   -- those of the tally
-  pub tallied : (l : EncoderList) → outcomesOf (l .calls) ≡ tally (numbered (numberIn l)) [] (callsOf (l .calls))
+  pub tallied : (l : EncoderList) → outcomesOf (l .calls) ≡ tally (numbered (alphabetIn l)) [] (callsOf (l .calls))
   -- after an accepted `finalize` the bytes written, joined, are the ceil(n · b / 8) that pack the accepted pieces joined: n members of one alphabet, n at
   -- most 2^60, b bits each
-  pub packs : (l : EncoderList) → Finished l → Packed (numberIn l) (textIn l) (bytesIn l)
+  pub packs : (l : EncoderList) → Finished l → Packed (alphabetIn l) (textIn l) (bytesIn l)
   -- `encode_sequence` of those pieces joined, given enough output memory, gives the same
   pub at-once :
       (l : EncoderList) →
       Finished l →
       (e : EncodeCall) →
-      numberFor e ≡ numberIn l →
+      alphabetFor e ≡ alphabetIn l →
       textFor e ≡ textIn l →
       length (bytesIn l) ≤ length (before e) →
       (e .result ≡ Encoded.Wrote (length (bytesIn l))) × (afterwards e ≡ front (bytesIn l) (before e))
   -- whatever text it accepts, it packs
-  pub encodes : (e : EncodeCall) (count : ℕ) → e .result ≡ Encoded.Wrote count → Packed (numberFor e) (textFor e) (take count (afterwards e))
+  pub encodes : (e : EncodeCall) (count : ℕ) → e .result ≡ Encoded.Wrote count → Packed (alphabetFor e) (textFor e) (take count (afterwards e))
   -- two sequences of members of one alphabet have equal packed bytes exactly when one is the other followed by zero or more symbols of code zero and their
   -- packed byte counts agree
   pub alike :

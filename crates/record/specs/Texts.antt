@@ -8,7 +8,7 @@ use Rattle.bits.specs.Tables.{at}
 use Rattle.bits.specs.Packing.{bytesFor}
 use Rattle.alphabet.specs.Questions.{limit}
 use Rattle.alphabet.specs.Symbols.{Coding}
-use Rattle.alphabet.specs.Names.{numbered}
+use Rattle.alphabet.specs.Names.{known, numbered}
 use Rattle.packing.specs.Encode.{packing}
 
 -- every byte of a text is a member
@@ -21,8 +21,9 @@ pub record Extends (A : Coding) (t u : List ℕ) : Type 0 where
   pub zeros : (i : ℕ) → i < length more → A .code (at more i) ≡ 0
   pub joined : map (A .canon) u ≡ map (A .canon) (t ++ more)
 
--- a text, and the bytes that pack it by the alphabet of a known number
+-- a text, and the bytes that pack it by the alphabet of a number
 pub record Packed (alphabet : ℕ) (text packed : List ℕ) : Type 0 where
+  pub has-alphabet : known alphabet ≡ true
   -- n members of one alphabet, n at most 2^60
   pub members : Members (numbered alphabet) text
   pub bounded : length text ≤ limit
