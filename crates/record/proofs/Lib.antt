@@ -5,3 +5,4 @@ pub mod Whole
 pub mod Alike
 pub mod AtOnce
 pub mod Encoders
+pub mod Every
