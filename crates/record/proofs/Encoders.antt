@@ -8,7 +8,7 @@ use denote.Ref.{now}
 use lib.ListN.{length, take}
 use Rattle.bits.specs.Memory.{front}
 use Rattle.alphabet.specs.Questions.{ask_else_then_, by}
-use Rattle.alphabet.specs.Names.{known, kindOf, numbered}
+use Rattle.alphabet.specs.Names.{known, kindOf}
 use Rattle.packing.specs.Answers.{updatedReply, finalizedReply}
 use Rattle.packing.specs.Encode.{updateMemory, finalizeMemory, freshEncoder, startEncoderAt, encodeAt, encodeMemory}
 use Rattle.packing.specs.declared.encoder.SequenceEncoder.{SequenceEncoder}
@@ -18,9 +18,8 @@ use Rattle.packing.specs.declared.encoder.Finalized.{Finalized}
 use Rattle.packing.specs.declared.sequence.Encoded.{Encoded}
 use Rattle.record.specs.Calls.{Outcome, written, acceptedText, finished}
 use Rattle.record.specs.Runs.{nextEncoder, unlessFinal, run}
-use Rattle.record.specs.Tally.{tally}
 use Rattle.record.specs.Texts.{Packed}
-use Rattle.record.specs.Made.{NewCall, UpdateCall, FinalizeCall, EncodeCall}
+use Rattle.record.specs.Made.{EncodeCall}
 use Rattle.record.specs.EncoderLists.{CodeCall, updates, finalizes, Ends, Follows, callsOf, outcomesOf, EncoderList, alphabetIn, Finished, textIn, bytesIn}
 use Rattle.record.specs.EncoderRecord.{alphabetFor, textFor, before, afterwards, EncoderRecord}
 use Rattle.record.proofs.Tallies.{fresh-tally}

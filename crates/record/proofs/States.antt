@@ -1,8 +1,8 @@
 -- The state that a text stands for: what an encoder holds once the text's pieces were accepted, however they were cut.
-use mathlib.Core.Path.{_≡_, refl, sym, ap, ap₂, _∙_}
+use mathlib.Core.Path.{_≡_, refl, sym, ap, _∙_}
 use mathlib.Core.Bool.{Bool, true, false, cond, not, _&&_}
-use mathlib.Core.List.{List, [], _∷_, _++_, map, map-append}
-use Prim.Native.Nat.{ℕ, zero, suc, _+_, _-_, _*_, _/_, _%_, _^_, _≤_, _<_}
+use mathlib.Core.List.{List, [], _∷_, _++_, map-append}
+use Prim.Native.Nat.{ℕ, suc, _+_, _*_, _/_, _%_, _≤_}
 use native.Mathlib.Nat.{add-zero, zero-add, zero-mul, add-mul}
 use native.Mathlib.Omega.{arith}
 use borrow.Author.Tests.{lt-ltb}
@@ -92,10 +92,6 @@ module _ (k : AlphabetType) (text piece : List ℕ) where
       let len : length (digitsOf A text) * A .width ≡ n / 8 * 8 + n % 8 = ap (λ (m : ℕ). m * A .width) (length-map text (digitOf A)) ∙ omega arith in
       hand-append (A .width) (lawful k .some-bits) (digitsOf A text) (digitsOf A piece) (n / 8) (n % 8) len i
       ∙ ap (λ (l : List ℕ). bitAt (A .width) (at l) (n / 8 * 8 + i)) (sym (map-append (digitOf A) text piece))
-
-  pub piece-count : pieceBitCount (stateOf k text) (length piece) ≡ length text * coding k .width % 8 + length piece * coding k .width
-  unfolding pieceBitCount stateOf
-  piece-count = refl
 
   pub state-updated : updated (stateOf k text) piece ≡ stateOf k (text ++ piece)
   unfolding updated stateOf pieceBitCount

@@ -2,26 +2,26 @@
 use mathlib.Core.Path.{_≡_, refl, sym, ap, ap₂, _∙_}
 use mathlib.Core.Bool.{Bool, true, false, cond}
 use mathlib.Core.List.{List, [], _∷_, _++_, append-nil}
-use Prim.Native.Nat.{ℕ, zero, suc, _+_, _-_, _*_, _/_, _%_, _^_, _≤_, _<_}
+use Prim.Native.Nat.{ℕ, suc, _+_, _*_, _/_, _%_, _≤_, _<_}
 use native.Mathlib.Nat.{zero-add, add-zero, add-mul}
 use native.Mathlib.Omega.{arith}
 use borrow.Author.Tests.{leb-true, le-leb, lt-leb, eqb-true, eqb-false, ltb-true, ltb-false}
 use lib.Dec.{leb, ltb, eqb, eqb·zero-suc, eqb·suc-suc}
 use lib.ListN.{length, take, drop, length-append, length-map}
 use Rattle.bits.specs.Tables.{tabulate, at}
-use Rattle.bits.specs.Streams.{bitAt, cut}
+use Rattle.bits.specs.Streams.{cut}
 use Rattle.bits.specs.Packing.{bytesFor, pack}
 use Rattle.bits.specs.Memory.{front}
 use Rattle.bits.proofs.Appended.{length-cut, cut-moved, drop-cut, part-cut}
 use Rattle.alphabet.specs.declared.kind.AlphabetType.{AlphabetType}
-use Rattle.alphabet.specs.Questions.{ask_else_then_, by, limit, inBounds, Reply, accepted, refused}
+use Rattle.alphabet.specs.Questions.{ask_else_then_, by, limit, inBounds, accepted, refused}
 use Rattle.alphabet.specs.Symbols.{Coding, coding}
 use Rattle.packing.specs.declared.first.First.{First}
 use Rattle.packing.specs.declared.encoder.SequenceEncoder.{SequenceEncoder}
 use Rattle.packing.specs.declared.encoder.Updated.{Updated}
 use Rattle.packing.specs.declared.encoder.Finalized.{Finalized}
 use Rattle.packing.specs.Answers.{updatedReply, finalizedReply}
-use Rattle.packing.specs.Encode.{digitOf, digitsOf, packing, firstFrom, unlessBad, freshEncoder, soundEncoder, pieceBits, pieceBitCount, updated, updateAt, updateWrites, updateMemory, finalizeRest, finalizeAt, finalizeWrites, finalizeMemory}
+use Rattle.packing.specs.Encode.{digitOf, packing, firstFrom, unlessBad, freshEncoder, pieceBits, pieceBitCount, updateAt, updateWrites, updateMemory, finalizeAt, finalizeWrites, finalizeMemory}
 use Rattle.record.specs.Calls.{Call, update, finalize, Outcome, isAccepted}
 use Rattle.record.specs.Tally.{textPacked, bytesFilled, membersAhead, Turn, stay, completes, updateTurn, finalizeTurn, shown, tally}
 use Rattle.record.specs.Runs.{nextEncoder, unlessFinal, run}

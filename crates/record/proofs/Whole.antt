@@ -2,7 +2,7 @@
 use mathlib.Core.Path.{_≡_, refl, sym, ap, ap₂, _∙_}
 use mathlib.Core.Bool.{Bool, true, false, cond, true≢false}
 use mathlib.Core.List.{List, [], _∷_, _++_, append-nil, append-assoc, map-append}
-use Prim.Native.Nat.{ℕ, zero, suc, _+_, _-_, _*_, _/_, _%_, _^_, _≤_, _<_}
+use Prim.Native.Nat.{ℕ, zero, suc, _+_, _-_, _*_, _/_, _%_, _≤_}
 use native.Mathlib.Nat.{add-mul, zero-mul, le-of-suc-le-suc, not-suc-le-zero}
 use native.Mathlib.Omega.{arith}
 use borrow.Author.Tests.{leb-true, eqb-true, eqb-false}
@@ -15,13 +15,13 @@ use Rattle.bits.specs.Packing.{bytesFor}
 use Rattle.bits.specs.Memory.{front}
 use Rattle.bits.proofs.Appended.{cut-moved, part-cut, bits-left}
 use Rattle.alphabet.specs.declared.kind.AlphabetType.{AlphabetType}
-use Rattle.alphabet.specs.Questions.{ask_else_then_, limit, inBounds, Reply, accepted, refused, valueIn}
+use Rattle.alphabet.specs.Questions.{ask_else_then_, limit, inBounds, accepted, refused, valueIn}
 use Rattle.alphabet.specs.Symbols.{Coding, coding}
 use Rattle.alphabet.specs.Names.{known, kindOf, numbered}
 use Rattle.alphabet.proofs.Laws.{lawful}
 use Rattle.packing.specs.Encode.{digitOf, digitsOf, packing, freshEncoder}
 use Rattle.record.specs.Calls.{Call, update, finalize, Outcome, isAccepted, written, acceptedText, finished}
-use Rattle.record.specs.Tally.{textPacked, bytesFilled, membersAhead, Turn, stay, completes, updateTurn, finalizeTurn, shown, tally}
+use Rattle.record.specs.Tally.{textPacked, bytesFilled, membersAhead, Turn, stay, completes, updateTurn, finalizeTurn, tally}
 use Rattle.record.specs.Runs.{run}
 use Rattle.record.specs.Texts.{Members, Packed}
 use Rattle.record.proofs.States.{textBits, length-both}
