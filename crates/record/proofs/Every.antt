@@ -1,11 +1,11 @@
 -- The claim leaves no list out: whatever pieces and memory a list of calls names, for each known alphabet number there is a list that the contracts allow and
--- in which just these calls are made, up to an accepted `finalize`.
+-- in which these calls are made, those behind an accepted `finalize` excepted. That the code meets its contracts is proved with the functions, not here.
 use mathlib.Core.Path.{_≡_, refl, ap}
 use mathlib.Core.Bool.{true}
 use mathlib.Core.List.{List, [], _∷_}
 use Prim.Native.Nat.{ℕ}
 use denote.Ref.{RefT}
-use lib.ListN.{length}
+use lib.ListN.{length, take}
 use Rattle.alphabet.specs.Names.{known, kindOf}
 use Rattle.packing.specs.Answers.{updatedReply, finalizedReply}
 use Rattle.packing.specs.Encode.{freshEncoder, startEncoderAt, updateAt, updateMemory, finalizeAt, finalizeMemory}
@@ -15,7 +15,7 @@ use Rattle.packing.specs.declared.encoder.Finalized.{Finalized}
 use Rattle.record.specs.Calls.{Call, update, finalize, Outcome}
 use Rattle.record.specs.Runs.{nextEncoder, unlessFinal, run}
 use Rattle.record.specs.Made.{NewCall, UpdateCall, FinalizeCall}
-use Rattle.record.specs.EncoderLists.{CodeCall, updates, finalizes, Ends, Follows, outcomesOf, EncoderList, alphabetIn}
+use Rattle.record.specs.EncoderLists.{CodeCall, updates, finalizes, Ends, Follows, callsOf, outcomesOf, EncoderList, alphabetIn}
 
 -- ---- a call for any state, piece and memory; of lifetimes and places in memory the contracts say nothing
 
@@ -74,6 +74,22 @@ made-outcomes s (finalize memory ∷ cs) =
     go (Finalized.Wrote count) ih = refl
     go (Finalized.Refused q next) ih = ih next
 
+-- each call that the definitions answer is made, in the order of the list
+made-calls : (s : SequenceEncoder) (cs : List Call) → callsOf (made s cs) ≡ take (length (run s cs)) cs
+unfolding made run
+made-calls s [] = refl
+made-calls s (update piece memory ∷ cs) =
+    ap (λ (l : List Call). update piece memory ∷ l) (made-calls (nextEncoder (updateAt s piece (length memory))) cs)
+made-calls s (finalize memory ∷ cs) =
+    ap (λ (l : List Call). finalize memory ∷ l) (go (finalizeAt s (length memory)) (λ next. made-calls next cs))
+  where
+    go :
+        (r : Finalized) →
+        ((next : SequenceEncoder) → callsOf (made next cs) ≡ take (length (run next cs)) cs) →
+        callsOf (unlessFinal r [] (λ next. made next cs)) ≡ take (length (unlessFinal r [] (λ next. run next cs))) cs
+    go (Finalized.Wrote count) ih = refl
+    go (Finalized.Refused q next) ih = ih next
+
 -- ---- the list, from an accepted `new`
 
 abbrev made-new : ℕ → NewCall
@@ -87,7 +103,10 @@ pub every-list :
     (alphabet : ℕ) →
     known alphabet ≡ true →
     (cs : List Call) →
-    (l : EncoderList) × ((alphabetIn l ≡ alphabet) × (outcomesOf (l .calls) ≡ run (freshEncoder (kindOf alphabet)) cs))
+    (l : EncoderList)
+    × ((alphabetIn l ≡ alphabet)
+    × ((callsOf (l .calls) ≡ take (length (run (freshEncoder (kindOf alphabet)) cs)) cs)
+    × (outcomesOf (l .calls) ≡ run (freshEncoder (kindOf alphabet)) cs)))
 every-list alphabet o cs = (
   record {
     new = made-new alphabet;
@@ -96,5 +115,5 @@ every-list alphabet o cs = (
     calls = made (freshEncoder (kindOf alphabet)) cs;
     follows = made-follows (freshEncoder (kindOf alphabet)) cs;
   },
-  (refl, made-outcomes (freshEncoder (kindOf alphabet)) cs),
+  (refl, (made-calls (freshEncoder (kindOf alphabet)) cs, made-outcomes (freshEncoder (kindOf alphabet)) cs)),
 )
