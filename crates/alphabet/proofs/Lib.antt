@@ -3,3 +3,4 @@ pub mod Laws
 pub mod Masks
 pub mod Calls
 pub mod Turns
+pub mod Canon

@@ -7,3 +7,5 @@ pub mod Rolling
 pub mod Blocks
 pub mod Files
 pub mod Put
+pub mod Appended
+pub mod Alike

@@ -4,9 +4,9 @@ use Rattle.windows.specs.declared.read.Read.{Read}
 use Rattle.windows.specs.Answers.{readReply}
 use Rattle.fantailclock.specs.Shapes.{count}
 use Rattle.fantailclock.proofs.reads.fc_decode_substring_from_bytes_at_offset.Statement.{
-use Rattle.fantailclock.proofs.reads.fc_decode_substring_from_bytes_at_offset.Tie as tie
   statement,
 }
+use Rattle.fantailclock.proofs.reads.fc_decode_substring_from_bytes_at_offset.Tie as tie
 
 decode-substring-from-bytes-at-offset-requires :
     tie.Need-decode-substring-from-bytes-at-offset-requires

@@ -1,0 +1,119 @@
+-- Demand 3, what it says of encoders, is proved: calls that the contracts allow run as the definitions do, and these are told by the tally.
+use mathlib.Core.Path.{_≡_, refl, sym, ap, ap₂, _∙_, subst}
+use mathlib.Core.Bool.{Bool, true, false}
+use mathlib.Core.List.{List, [], _∷_}
+use Prim.Native.Nat.{ℕ, _≤_}
+use native.Mathlib.Omega.{arith}
+use denote.Ref.{now}
+use lib.ListN.{length, take}
+use Rattle.bits.specs.Memory.{front}
+use Rattle.alphabet.specs.Questions.{ask_else_then_, by}
+use Rattle.alphabet.specs.Names.{known, kindOf}
+use Rattle.packing.specs.Answers.{updatedReply, finalizedReply}
+use Rattle.packing.specs.Encode.{updateMemory, finalizeMemory, freshEncoder, startEncoderAt, encodeAt, encodeMemory}
+use Rattle.packing.specs.declared.encoder.SequenceEncoder.{SequenceEncoder}
+use Rattle.packing.specs.declared.encoder.EncoderStarted.{EncoderStarted}
+use Rattle.packing.specs.declared.encoder.Updated.{Updated}
+use Rattle.packing.specs.declared.encoder.Finalized.{Finalized}
+use Rattle.packing.specs.declared.sequence.Encoded.{Encoded}
+use Rattle.record.specs.Calls.{Outcome, written, acceptedText, finished}
+use Rattle.record.specs.Runs.{nextEncoder, unlessFinal, run}
+use Rattle.record.specs.Texts.{Packed}
+use Rattle.record.specs.Made.{EncodeCall}
+use Rattle.record.specs.EncoderLists.{CodeCall, updates, finalizes, Ends, Follows, callsOf, outcomesOf, EncoderList, alphabetIn, Finished, textIn, bytesIn}
+use Rattle.record.specs.EncoderRecord.{alphabetFor, textFor, before, afterwards, EncoderRecord}
+use Rattle.record.proofs.Tallies.{fresh-tally}
+use Rattle.record.proofs.Whole.{fresh-packs}
+use Rattle.record.proofs.AtOnce.{encode-packed, encode-accepted}
+use Rattle.record.proofs.Alike.{alike}
+
+-- ---- calls that follow each other run as the definitions do
+
+ends-none : (cs : List CodeCall) → Ends cs → outcomesOf cs ≡ []
+ends-none [] e = refl
+ends-none (c ∷ cs) e = absurd e
+
+pub code-run : (s : SequenceEncoder) (cs : List CodeCall) → Follows s cs → outcomesOf cs ≡ run s (callsOf cs)
+unfolding run
+code-run s [] f = refl
+code-run s (updates c ∷ cs) f = step s (f .0) (code-run (nextEncoder (c .result)) cs (f .1))
+  where
+    step : (s : SequenceEncoder) → c .args .0 ≡ s → outcomesOf cs ≡ run (nextEncoder (c .result)) (callsOf cs) → outcomesOf (updates c ∷ cs) ≡ run s (callsOf (updates c ∷ cs))
+    step s e ih =
+        rw (← e)
+        (ap₂ (λ (m : List ℕ) (os : List Outcome). record { reply = updatedReply (c .result); memory = m } ∷ os) (c .met .1) ih
+        ∙ ap (λ (r : Updated). record { reply = updatedReply r; memory = updateMemory (c .args .0) (now (c .args .1 .0)) (now (c .args .1 .1 .0)) } ∷ run (nextEncoder r) (callsOf cs)) (c .met .0))
+code-run s (finalizes c ∷ cs) f = step s (f .0) (go (c .result) (λ next. code-run next cs) (f .1))
+  where
+    go :
+        (r : Finalized) →
+        ((next : SequenceEncoder) → Follows next cs → outcomesOf cs ≡ run next (callsOf cs)) →
+        unlessFinal r (Ends cs) (λ next. Follows next cs) →
+        outcomesOf cs ≡ unlessFinal r [] (λ next. run next (callsOf cs))
+    go (Finalized.Wrote count) ih e = ends-none cs e
+    go (Finalized.Refused q next) ih f = ih next f
+
+    step :
+        (s : SequenceEncoder) →
+        c .args .0 ≡ s →
+        outcomesOf cs ≡ unlessFinal (c .result) [] (λ next. run next (callsOf cs)) →
+        outcomesOf (finalizes c ∷ cs) ≡ run s (callsOf (finalizes c ∷ cs))
+    step s e ih =
+        rw (← e)
+        (ap₂ (λ (m : List ℕ) (os : List Outcome). record { reply = finalizedReply (c .result); memory = m } ∷ os) (c .met .1) ih
+        ∙ ap (λ (r : Finalized). record { reply = finalizedReply r; memory = finalizeMemory (c .args .0) (now (c .args .1 .0)) } ∷ unlessFinal r [] (λ next. run next (callsOf cs))) (c .met .0))
+
+-- an accepted `new` was handed a known number and returned a fresh encoder of its kind
+started-fresh : (n : ℕ) (s : SequenceEncoder) → startEncoderAt n ≡ EncoderStarted.Fresh s → (known n ≡ true) × (freshEncoder (kindOf n) ≡ s)
+unfolding startEncoderAt
+started-fresh n s e = go (known n) e
+  where
+    go : (b : Bool) → (ask b else EncoderStarted.Refused (by 8 []) then EncoderStarted.Fresh (freshEncoder (kindOf n))) ≡ EncoderStarted.Fresh s → (b ≡ true) × (freshEncoder (kindOf n) ≡ s)
+    go true q = (refl, cc)
+    go false q = let z : _≡_ {A = ℕ} 0 1 = cc in absurd (omega arith)
+
+module _ (l : EncoderList) where
+  fresh-known : known (alphabetIn l) ≡ true
+  fresh-known = started-fresh (alphabetIn l) (l .fresh) (sym (l .new .met) ∙ l .started) .0
+
+  list-run : outcomesOf (l .calls) ≡ run (freshEncoder (kindOf (alphabetIn l))) (callsOf (l .calls))
+  list-run =
+      code-run (l .fresh) (l .calls) (l .follows)
+      ∙ ap (λ (s : SequenceEncoder). run s (callsOf (l .calls))) (sym (started-fresh (alphabetIn l) (l .fresh) (sym (l .new .met) ∙ l .started) .1))
+
+  list-packs : Finished l → Packed (alphabetIn l) (textIn l) (bytesIn l)
+  list-packs h =
+      subst (λ (os : List Outcome). Packed (alphabetIn l) (acceptedText (callsOf (l .calls)) os) (written 0 os)) (sym list-run)
+      (fresh-packs (alphabetIn l) fresh-known (callsOf (l .calls)) (ap (finished (callsOf (l .calls))) (sym list-run) ∙ h))
+
+-- ---- `encode_sequence`
+
+once-packed :
+    (e : EncodeCall) (alphabet : ℕ) (text packed : List ℕ) →
+    Packed alphabet text packed →
+    alphabetFor e ≡ alphabet →
+    textFor e ≡ text →
+    length packed ≤ length (before e) →
+    (e .result ≡ Encoded.Wrote (length packed)) × (afterwards e ≡ front packed (before e))
+once-packed e alphabet text packed p a t room =
+    let one = encode-packed alphabet text packed (before e) p room in (
+      e .met .0 ∙ ap₂ (λ (x : ℕ) (y : List ℕ). encodeAt x y (length (before e))) a t ∙ one .0,
+      e .met .1 ∙ ap₂ (λ (x : ℕ) (y : List ℕ). encodeMemory x y (before e)) a t ∙ one .1,
+    )
+
+once-accepted : (e : EncodeCall) (count : ℕ) → e .result ≡ Encoded.Wrote count → Packed (alphabetFor e) (textFor e) (take count (afterwards e))
+once-accepted e count r =
+    subst (λ (m : List ℕ). Packed (alphabetFor e) (textFor e) (take count m)) (sym (e .met .1))
+    (encode-accepted (alphabetFor e) (textFor e) (before e) count (sym (e .met .0) ∙ r))
+
+-- ---- the claim
+
+pub encoder-record : EncoderRecord
+encoder-record =
+    record {
+      tallied = λ l. list-run l ∙ fresh-tally (kindOf (alphabetIn l)) (callsOf (l .calls));
+      packs = list-packs;
+      at-once = λ l h e. once-packed e (alphabetIn l) (textIn l) (bytesIn l) (list-packs l h);
+      encodes = once-accepted;
+      alike = λ alphabet. alike (kindOf alphabet);
+    }

@@ -1,0 +1,119 @@
+-- The claim leaves no list out: whatever pieces and memory a list of calls names, for each known alphabet number there is a list that the contracts allow and
+-- in which these calls are made, those behind an accepted `finalize` excepted. That the code meets its contracts is proved with the functions, not here.
+use mathlib.Core.Path.{_≡_, refl, ap}
+use mathlib.Core.Bool.{true}
+use mathlib.Core.List.{List, [], _∷_}
+use Prim.Native.Nat.{ℕ}
+use denote.Ref.{RefT}
+use lib.ListN.{length, take}
+use Rattle.alphabet.specs.Names.{known, kindOf}
+use Rattle.packing.specs.Answers.{updatedReply, finalizedReply}
+use Rattle.packing.specs.Encode.{freshEncoder, startEncoderAt, updateAt, updateMemory, finalizeAt, finalizeMemory}
+use Rattle.packing.specs.declared.encoder.SequenceEncoder.{SequenceEncoder}
+use Rattle.packing.specs.declared.encoder.EncoderStarted.{EncoderStarted}
+use Rattle.packing.specs.declared.encoder.Finalized.{Finalized}
+use Rattle.record.specs.Calls.{Call, update, finalize, Outcome}
+use Rattle.record.specs.Runs.{nextEncoder, unlessFinal, run}
+use Rattle.record.specs.Made.{NewCall, UpdateCall, FinalizeCall}
+use Rattle.record.specs.EncoderLists.{CodeCall, updates, finalizes, Ends, Follows, callsOf, outcomesOf, EncoderList, alphabetIn}
+
+-- ---- a call for any state, piece and memory; of lifetimes and places in memory the contracts say nothing
+
+abbrev at-some : List ℕ → RefT (List ℕ)
+at-some l = record { ptr = (0, 0); name = 0; now = l }
+
+abbrev made-update : SequenceEncoder → List ℕ → List ℕ → UpdateCall
+made-update s piece memory =
+    record {
+      κs = ([], ([], tt));
+      args = (s, (at-some piece, (at-some memory, tt)));
+      result = updateAt s piece (length memory);
+      exit = (s, (at-some piece, (at-some (updateMemory s piece memory), tt)));
+      met = (refl, refl);
+    }
+
+abbrev made-finalize : SequenceEncoder → List ℕ → FinalizeCall
+made-finalize s memory =
+    record {
+      κs = ([], tt);
+      args = (s, (at-some memory, tt));
+      result = finalizeAt s (length memory);
+      exit = (s, (at-some (finalizeMemory s memory), tt));
+      met = (refl, refl);
+    }
+
+-- the calls that a list comes to, up to an accepted `finalize`
+made : SequenceEncoder → List Call → List CodeCall
+made s [] = []
+made s (update piece memory ∷ cs) = updates (made-update s piece memory) ∷ made (nextEncoder (updateAt s piece (length memory))) cs
+made s (finalize memory ∷ cs) = finalizes (made-finalize s memory) ∷ unlessFinal (finalizeAt s (length memory)) [] (λ next. made next cs)
+
+made-follows : (s : SequenceEncoder) (cs : List Call) → Follows s (made s cs)
+unfolding made
+made-follows s [] = tt
+made-follows s (update piece memory ∷ cs) = (refl, made-follows (nextEncoder (updateAt s piece (length memory))) cs)
+made-follows s (finalize memory ∷ cs) = (refl, go (finalizeAt s (length memory)) (λ next. made-follows next cs))
+  where
+    go : (r : Finalized) → ((next : SequenceEncoder) → Follows next (made next cs))
+        → unlessFinal r (Ends (unlessFinal r [] (λ next. made next cs))) (λ next. Follows next (unlessFinal r [] (λ next. made next cs)))
+    go (Finalized.Wrote count) ih = tt
+    go (Finalized.Refused q next) ih = ih next
+
+made-outcomes : (s : SequenceEncoder) (cs : List Call) → outcomesOf (made s cs) ≡ run s cs
+unfolding made run
+made-outcomes s [] = refl
+made-outcomes s (update piece memory ∷ cs) =
+    ap (λ (os : List Outcome). record { reply = updatedReply (updateAt s piece (length memory)); memory = updateMemory s piece memory } ∷ os)
+    (made-outcomes (nextEncoder (updateAt s piece (length memory))) cs)
+made-outcomes s (finalize memory ∷ cs) =
+    ap (λ (os : List Outcome). record { reply = finalizedReply (finalizeAt s (length memory)); memory = finalizeMemory s memory } ∷ os)
+    (go (finalizeAt s (length memory)) (λ next. made-outcomes next cs))
+  where
+    go : (r : Finalized) → ((next : SequenceEncoder) → outcomesOf (made next cs) ≡ run next cs)
+        → outcomesOf (unlessFinal r [] (λ next. made next cs)) ≡ unlessFinal r [] (λ next. run next cs)
+    go (Finalized.Wrote count) ih = refl
+    go (Finalized.Refused q next) ih = ih next
+
+-- each call that the definitions answer is made, in the order of the list
+made-calls : (s : SequenceEncoder) (cs : List Call) → callsOf (made s cs) ≡ take (length (run s cs)) cs
+unfolding made run
+made-calls s [] = refl
+made-calls s (update piece memory ∷ cs) =
+    ap (λ (l : List Call). update piece memory ∷ l) (made-calls (nextEncoder (updateAt s piece (length memory))) cs)
+made-calls s (finalize memory ∷ cs) =
+    ap (λ (l : List Call). finalize memory ∷ l) (go (finalizeAt s (length memory)) (λ next. made-calls next cs))
+  where
+    go :
+        (r : Finalized) →
+        ((next : SequenceEncoder) → callsOf (made next cs) ≡ take (length (run next cs)) cs) →
+        callsOf (unlessFinal r [] (λ next. made next cs)) ≡ take (length (unlessFinal r [] (λ next. run next cs))) cs
+    go (Finalized.Wrote count) ih = refl
+    go (Finalized.Refused q next) ih = ih next
+
+-- ---- the list, from an accepted `new`
+
+abbrev made-new : ℕ → NewCall
+made-new alphabet = record { κs = tt; args = (alphabet, tt); result = startEncoderAt alphabet; exit = (alphabet, tt); met = refl }
+
+new-accepted : (alphabet : ℕ) → known alphabet ≡ true → startEncoderAt alphabet ≡ EncoderStarted.Fresh (freshEncoder (kindOf alphabet))
+unfolding startEncoderAt
+new-accepted alphabet o = rw o
+
+pub every-list :
+    (alphabet : ℕ) →
+    known alphabet ≡ true →
+    (cs : List Call) →
+    (l : EncoderList)
+    × ((alphabetIn l ≡ alphabet)
+    × ((callsOf (l .calls) ≡ take (length (run (freshEncoder (kindOf alphabet)) cs)) cs)
+    × (outcomesOf (l .calls) ≡ run (freshEncoder (kindOf alphabet)) cs)))
+every-list alphabet o cs = (
+  record {
+    new = made-new alphabet;
+    fresh = freshEncoder (kindOf alphabet);
+    started = new-accepted alphabet o;
+    calls = made (freshEncoder (kindOf alphabet)) cs;
+    follows = made-follows (freshEncoder (kindOf alphabet)) cs;
+  },
+  (refl, (made-calls (freshEncoder (kindOf alphabet)) cs, made-outcomes (freshEncoder (kindOf alphabet)) cs)),
+)

@@ -1,0 +1,64 @@
+-- An encoder's lists as the code makes them. States document 01, "The record": the first call gets a fresh state, each later one the state last returned, and
+-- an accepted `finalize` ends the list.
+use Prim.Native.Nat.{ℕ}
+use mathlib.Core.Path.{_≡_}
+use mathlib.Core.Bool.{true}
+use mathlib.Core.List.{List, [], _∷_}
+use denote.Ref.{now}
+use Rattle.packing.specs.declared.encoder.SequenceEncoder.{SequenceEncoder}
+use Rattle.packing.specs.declared.encoder.EncoderStarted.{EncoderStarted}
+use Rattle.packing.specs.Answers.{updatedReply, finalizedReply}
+use Rattle.record.specs.Calls.{Call, update, finalize, Outcome, written, acceptedText, finished}
+use Rattle.record.specs.Runs.{nextEncoder, unlessFinal}
+use Rattle.record.specs.Made.{NewCall, UpdateCall, FinalizeCall}
+
+-- a call of an encoder's list
+pub data CodeCall : Type 0 where
+  updates : UpdateCall → CodeCall
+  finalizes : FinalizeCall → CodeCall
+
+-- no call is made
+abbrev pub Ends : List CodeCall → Type 0
+Ends [] = Unit {0}
+Ends (c ∷ cs) = ⊥
+
+-- the first call is handed the state s, each later one the state last returned, and an accepted `finalize` ends the list
+abbrev pub Follows : SequenceEncoder → List CodeCall → Type 0
+Follows s [] = Unit {0}
+Follows s (updates c ∷ cs) = (c .args .0 ≡ s) × Follows (nextEncoder (c .result)) cs
+Follows s (finalizes c ∷ cs) = (c .args .0 ≡ s) × unlessFinal (c .result) (Ends cs) (λ next. Follows next cs)
+
+-- what the calls are handed besides: pieces, and what memory holds before
+abbrev pub callsOf : List CodeCall → List Call
+callsOf [] = []
+callsOf (updates c ∷ cs) = update (now (c .args .1 .0)) (now (c .args .1 .1 .0)) ∷ callsOf cs
+callsOf (finalizes c ∷ cs) = finalize (now (c .args .1 .0)) ∷ callsOf cs
+
+-- what comes of them: what each tells, and what its memory holds afterwards
+abbrev pub outcomesOf : List CodeCall → List Outcome
+outcomesOf [] = []
+outcomesOf (updates c ∷ cs) = record { reply = updatedReply (c .result); memory = now (c .exit .1 .1 .0) } ∷ outcomesOf cs
+outcomesOf (finalizes c ∷ cs) = record { reply = finalizedReply (c .result); memory = now (c .exit .1 .0) } ∷ outcomesOf cs
+
+-- a fresh encoder, which an accepted `new` returned, and a list of calls from it
+pub record EncoderList : Type 0 where
+  pub new : NewCall
+  pub fresh : SequenceEncoder
+  pub started : new .result ≡ EncoderStarted.Fresh fresh
+  pub calls : List CodeCall
+  pub follows : Follows fresh calls
+
+-- the alphabet number that `new` was handed
+abbrev pub alphabetIn : EncoderList → ℕ
+alphabetIn l = l .new .args .0
+
+-- a `finalize` of the list was accepted
+abbrev pub Finished : EncoderList → Type 0
+Finished l = finished (callsOf (l .calls)) (outcomesOf (l .calls)) ≡ true
+
+-- the accepted pieces, joined, and the bytes written, joined
+abbrev pub textIn : EncoderList → List ℕ
+textIn l = acceptedText (callsOf (l .calls)) (outcomesOf (l .calls))
+
+abbrev pub bytesIn : EncoderList → List ℕ
+bytesIn l = written 0 (outcomesOf (l .calls))

@@ -1,0 +1,32 @@
+-- Texts and the bytes that pack them. States the words of demand 3's sentences on an accepted `finalize` and on equal packed bytes.
+use Prim.Native.Nat.{ℕ, _*_, _≤_, _<_}
+use mathlib.Core.Path.{_≡_}
+use mathlib.Core.Bool.{true}
+use mathlib.Core.List.{List, _++_, map}
+use lib.ListN.{length}
+use Rattle.bits.specs.Tables.{at}
+use Rattle.bits.specs.Packing.{bytesFor}
+use Rattle.alphabet.specs.Questions.{limit}
+use Rattle.alphabet.specs.Symbols.{Coding}
+use Rattle.alphabet.specs.Names.{known, numbered}
+use Rattle.packing.specs.Encode.{packing}
+
+-- every byte of a text is a member
+abbrev pub Members : Coding → List ℕ → Type 0
+Members A text = (i : ℕ) → i < length text → A .member (at text i) ≡ true
+
+-- u is t followed by zero or more symbols of code zero; each byte counts as the symbol that it stands for
+pub record Extends (A : Coding) (t u : List ℕ) : Type 0 where
+  pub more : List ℕ
+  pub zeros : (i : ℕ) → i < length more → A .code (at more i) ≡ 0
+  pub joined : map (A .canon) u ≡ map (A .canon) (t ++ more)
+
+-- a text, and the bytes that pack it by the alphabet of a number
+pub record Packed (alphabet : ℕ) (text packed : List ℕ) : Type 0 where
+  pub has-alphabet : known alphabet ≡ true
+  -- n members of one alphabet, n at most 2^60
+  pub members : Members (numbered alphabet) text
+  pub bounded : length text ≤ limit
+  -- ceil(n · b / 8) bytes, and these
+  pub counted : length packed ≡ bytesFor (length text * numbered alphabet .width)
+  pub packs : packed ≡ packing (numbered alphabet) text
