@@ -275,3 +275,14 @@ plain-of k e = ⊎-elim (λ p. absurd (omega (arith, p .five))) (λ p. p) (shape
 
 pub five-of : (k : AlphabetType) → (coding k .width ≡ 8 → ⊥) → coding k .width ≤ 5
 five-of k e = ⊎-elim (λ p. p .five) (λ p. absurd (e (p .eight))) (shape k)
+
+-- ---- what an engine wrote, as a window of the kind that was asked for
+
+pub of-kind : (engine kind : AlphabetType) (lent : List ℕ) (offset start n : ℕ) (memory out : List ℕ) → kind ≡ engine
+    → out ≡ putAt 0 (window (coding engine) lent offset start n) memory → out ≡ putAt 0 (window (coding kind) lent offset start n) memory
+of-kind engine kind lent offset start n memory out e w = w ∙ ap (λ (k : AlphabetType). putAt 0 (window (coding k) lent offset start n) memory) (sym e)
+
+pub of-plain : (kind : AlphabetType) (lent : List ℕ) (offset start n : ℕ) (memory out : List ℕ) → Bytes lent → coding kind .width ≡ 8
+    → out ≡ putAt 0 (fileBytes lent offset start n) memory → out ≡ putAt 0 (window (coding kind) lent offset start n) memory
+of-plain kind lent offset start n memory out bytes e w =
+    w ∙ ap (λ (xs : List ℕ). putAt 0 xs memory) (sym (window-plain (coding kind) (plain-of kind e) lent bytes offset start n))

@@ -72,23 +72,15 @@ pub fn three_bits(bytes: &[u8], offset: usize, start: usize, count: usize, out: 
     requires { ⌜ Fits start count 0 (length (now out)) ⌝ }
     ensures { λ _. ⌜ now (out .exit) ≡ putAt 0 (window (coding Dna3bit) (now (bytes .entry)) offset start count) (now (out .entry)) ⌝ }
 {
-    let table = decoding_array(AlphabetType::Dna3bit);
+    let kind = AlphabetType::Dna3bit;
+    let table = decoding_array(kind);
     let head = least((8 - start % 8) % 8, count);
-    roll(
-        AlphabetType::Dna3bit,
-        &table,
-        bytes,
-        offset,
-        start,
-        head,
-        out,
-        0,
-    );
+    roll(kind, &table, bytes, offset, start, head, out, 0);
     let block = (start + head) / 8;
     let most = (count - head) / 8;
     let done = head + blocks(&table, bytes, offset, block, most, out, head) * 8;
     roll(
-        AlphabetType::Dna3bit,
+        kind,
         &table,
         bytes,
         offset,

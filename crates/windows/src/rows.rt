@@ -118,38 +118,21 @@ pub fn two_bits(bytes: &[u8], offset: usize, start: usize, count: usize, out: &m
     requires { ⌜ Fits start count 0 (length (now out)) ⌝ }
     ensures { λ _. ⌜ now (out .exit) ≡ putAt 0 (window (coding Dna2bit) (now (bytes .entry)) offset start count) (now (out .entry)) ⌝ }
 {
-    let table = decoding_array(AlphabetType::Dna2bit);
+    let kind = AlphabetType::Dna2bit;
+    let table = decoding_array(kind);
     if count < ROWS_FROM {
-        roll(
-            AlphabetType::Dna2bit,
-            &table,
-            bytes,
-            offset,
-            start,
-            count,
-            out,
-            0,
-        );
+        roll(kind, &table, bytes, offset, start, count, out, 0);
         return;
     }
     let head = least((4 - start % 4) % 4, count);
-    roll(
-        AlphabetType::Dna2bit,
-        &table,
-        bytes,
-        offset,
-        start,
-        head,
-        out,
-        0,
-    );
+    roll(kind, &table, bytes, offset, start, head, out, 0);
     let rows = row_table();
     let first = (start + head) / 4;
     let whole = (count - head) / 4;
     put_rows(&rows, bytes, offset, first, whole, out, head);
     let done = head + whole * 4;
     roll(
-        AlphabetType::Dna2bit,
+        kind,
         &table,
         bytes,
         offset,
