@@ -6,7 +6,7 @@ use crate::rolling::roll;
 use alphabet::AlphabetType;
 use alphabet::decoding_array;
 ghost use mathlib.Core.Path.{_≡_};
-ghost use Prim.Native.Nat.{_+_, _*_, _/_, _%_, _^_, _<_, _≤_};
+ghost use Prim.Native.Nat.{_+_, _*_, _≤_};
 ghost use lib.ListN.{length};
 ghost use Rattle.bits.specs.Tables.{at};
 ghost use Rattle.bits.specs.Memory.{putAt};

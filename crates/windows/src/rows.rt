@@ -9,7 +9,6 @@ use bits::place;
 ghost use mathlib.Core.Path.{_≡_};
 ghost use Prim.Native.Nat.{_+_, _*_, _≤_};
 ghost use lib.ListN.{length};
-ghost use Rattle.bits.specs.Tables.{tabulate};
 ghost use Rattle.bits.specs.Memory.{putAt};
 ghost use Rattle.alphabet.specs.Symbols.{coding};
 ghost use Rattle.alphabet.specs.declared.kind.AlphabetType.the-variants.{Dna2bit};

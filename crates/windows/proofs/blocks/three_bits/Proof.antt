@@ -1,8 +1,7 @@
-use mathlib.Core.Path.{_≡_, _∙_}
-use Prim.Native.Nat.{ℕ, _+_, _*_, _≤_, _/_}
+use mathlib.Core.Path.{_∙_}
+use Prim.Native.Nat.{_+_, _*_, _≤_, _/_}
 use native.Mathlib.Omega.{arith}
 use lib.Dec.{lit≤}
-use lib.ListN.{length}
 use borrow.Author.Needs.{needs}
 use Rattle.alphabet.specs.Symbols.{coding}
 use Rattle.alphabet.specs.declared.kind.AlphabetType.the-variants.{Dna3bit}

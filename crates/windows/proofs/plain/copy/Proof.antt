@@ -1,10 +1,9 @@
-use mathlib.Core.Path.{_≡_, refl, ap, _∙_}
-use Prim.Native.Nat.{ℕ, _+_, _-_, _≤_, zero-le}
+use mathlib.Core.Path.{_≡_, refl}
+use Prim.Native.Nat.{_+_, _-_, _≤_, zero-le}
 use native.Mathlib.Omega.{arith}
 use lib.ListN.{length, length-set}
 use borrow.Author.Needs.{needs}
 use Rattle.bits.specs.Tables.{at}
-use Rattle.bits.specs.Memory.{putAt}
 use Rattle.bits.proofs.Put.{Filled, none-filled, one-filled}
 use Rattle.windows.specs.Workers.{stretch}
 use Rattle.windows.proofs.plain.copy.Statement.{statement}

@@ -1,6 +1,6 @@
 -- The eight highest bits fall out, and the byte's bits meet zeros.
 use mathlib.Core.Path.{_≡_, ap, ap₂, _∙_}
-use Prim.Native.Nat.{ℕ, _+_, _*_, _/_, _%_, _^_}
+use Prim.Native.Nat.{ℕ, _+_, _*_, _%_, _^_}
 use native.Mathlib.Nat.{add-zero, mul-mod-left}
 use lib.Pow.{shl-shr, mod-pow-add}
 use lib.Bits.{bitOr, or-shifted}

@@ -1,6 +1,5 @@
 use mathlib.Core.Path.{_∙_}
 use native.Mathlib.Omega.{arith}
-use borrow.Author.Needs.{needs}
 use Rattle.windows.proofs.WholeBytes.{rows-joined}
 use Rattle.windows.proofs.rows.put_rows.Statement.{statement}
 use Rattle.windows.proofs.rows.put_rows.Tie as tie
