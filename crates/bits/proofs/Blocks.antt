@@ -1,10 +1,8 @@
 -- Blocks over a width: codes that begin with one byte and end with another are the fields of the number that these bytes write.
-use mathlib.Core.Path.{_≡_, sym, ap, ap₂, _∙_}
-use mathlib.Core.List.{List}
-use Prim.Native.Nat.{ℕ, suc, _+_, _-_, _*_, _/_, _%_, _^_, _≤_, _<_}
+use mathlib.Core.Path.{_≡_, sym, ap, _∙_}
+use Prim.Native.Nat.{ℕ, _+_, _-_, _*_, _/_, _%_, _^_, _<_}
 use native.Mathlib.Nat.{add-mul, one-mul, mod-eq-of-lt}
 use native.Mathlib.Omega.{arith}
-use Rattle.bits.specs.Tables.{tabulate}
 use Rattle.bits.specs.Streams.{bitAt, word, cut, fields}
 use Rattle.bits.proofs.Tabulated.{tabulate-ext}
 use Rattle.bits.proofs.Words.{word-add, word-whole, word-high, word-low, bit-lt}

@@ -1,24 +1,24 @@
 -- One law for each turn of this crate's loops: what is written, and what is held.
 use mathlib.Core.Path.{_≡_, refl, sym, ap, ap₂, _∙_}
-use mathlib.Core.List.{List, [], _∷_, _++_, map}
-use Prim.Native.Nat.{ℕ, suc, _+_, _-_, _*_, _/_, _%_, _^_, _≤_, _<_}
-use native.Mathlib.Nat.{add-zero, zero-add, add-assoc, add-mul, one-mul, mul-comm, mul-le-mul, mod-one, lt-of-lt-of-le}
+use mathlib.Core.List.{List, [], _∷_, _++_}
+use Prim.Native.Nat.{ℕ, _+_, _-_, _*_, _/_, _%_, _^_, _≤_, _<_}
+use native.Mathlib.Nat.{zero-add, add-assoc, add-mul, one-mul, mul-comm, mul-le-mul, mod-one, lt-of-lt-of-le}
 use native.Mathlib.Decide.{decLt}
 use native.Mathlib.Omega.{arith}
-use lib.ListN.{length, getD, set}
+use lib.ListN.{length, set}
 use lib.Pow.{pow-mono, high, low, field, mod-pow-add, mod-mod-pow}
 use Rattle.bits.specs.Tables.{tabulate, at}
-use Rattle.bits.specs.Streams.{bitAt, word, cut, fields}
-use Rattle.bits.specs.Packing.{fileByte, codesFrom}
+use Rattle.bits.specs.Streams.{bitAt, word}
+use Rattle.bits.specs.Packing.{fileByte}
 use Rattle.bits.specs.Memory.{putAt}
 use Rattle.bits.proofs.Tabulated.{getD-tabulate}
 use Rattle.bits.proofs.Words.{word-add, word-lt, word-high, word-low, bit-lt}
 use Rattle.bits.proofs.Put.{put-none, put-one, put-length, put-put}
-use Rattle.bits.proofs.Blocks.{word-byte, block-codes}
+use Rattle.bits.proofs.Blocks.{word-byte}
 use Rattle.alphabet.specs.Symbols.{Coding}
 use Rattle.windows.specs.declared.rolling.Held.{Held}
 use Rattle.windows.specs.Window.{window}
-use Rattle.windows.specs.Workers.{Decodes, Holds, symbolsOf}
+use Rattle.windows.specs.Workers.{Decodes, Holds}
 use Rattle.windows.proofs.Windows.{baseAt, window-bases, length-window, window-add, window-one}
 
 -- ---- what is written

@@ -1,15 +1,15 @@
 -- Windows that are read by whole bytes: blocks of codes, and plain bytes.
-use mathlib.Core.Path.{_≡_, refl, sym, ap, ap₂, _∙_}
-use mathlib.Core.List.{List, [], _∷_, _++_, map, append-assoc}
+use mathlib.Core.Path.{_≡_, refl, sym, ap, _∙_}
+use mathlib.Core.List.{List, [], _∷_, map, append-assoc}
 use mathlib.Core.Logic.{⊎-elim}
-use Prim.Native.Nat.{ℕ, suc, _+_, _-_, _*_, _/_, _%_, _^_, _≤_, _<_, min}
+use Prim.Native.Nat.{ℕ, _+_, _-_, _*_, _/_, _%_, _^_, _≤_, _<_, min}
 use native.Mathlib.Nat.{zero-add, le-of-eq, div-one}
 use native.Mathlib.Omega.{arith}
 use native.Mathlib.Numerals.{towards-suc}
 use lib.ListN.{length, replicate, getD, set, take, drop}
 use lib.Seq.{sets-eq}
 use Rattle.bits.specs.Tables.{tabulate, at, Bytes}
-use Rattle.bits.specs.Streams.{bitAt, word, cut, fields}
+use Rattle.bits.specs.Streams.{bitAt, word, fields}
 use Rattle.bits.specs.Packing.{fileByte, codesFrom}
 use Rattle.bits.specs.Memory.{putAt}
 use Rattle.bits.proofs.Tabulated.{tabulate-ext, getD-tabulate, is-tabulate, replicate-tabulate, front-more}
@@ -19,7 +19,7 @@ use Rattle.bits.proofs.Files.{file-before, file-lent, file-past, file-small, wo
 use Rattle.alphabet.specs.Symbols.{Coding, listed, coding}
 use Rattle.alphabet.specs.declared.kind.AlphabetType.{AlphabetType}
 use Rattle.alphabet.specs.declared.kind.AlphabetType.the-variants.{Dna2bit, Dna3bit}
-use Rattle.alphabet.proofs.Laws.{Packed, Plain, shape}
+use Rattle.alphabet.proofs.Laws.{Plain, shape}
 use Rattle.windows.specs.Window.{window}
 use Rattle.windows.specs.Workers.{Decodes, Rows, symbolsOf, stretch, fileBytes}
 use Rattle.windows.proofs.Windows.{baseAt, window-bases}
@@ -275,3 +275,14 @@ plain-of k e = ⊎-elim (λ p. absurd (omega (arith, p .five))) (λ p. p) (shape
 
 pub five-of : (k : AlphabetType) → (coding k .width ≡ 8 → ⊥) → coding k .width ≤ 5
 five-of k e = ⊎-elim (λ p. p .five) (λ p. absurd (e (p .eight))) (shape k)
+
+-- ---- what an engine wrote, as a window of the kind that was asked for
+
+pub of-kind : (engine kind : AlphabetType) (lent : List ℕ) (offset start n : ℕ) (memory out : List ℕ) → kind ≡ engine
+    → out ≡ putAt 0 (window (coding engine) lent offset start n) memory → out ≡ putAt 0 (window (coding kind) lent offset start n) memory
+of-kind engine kind lent offset start n memory out e w = w ∙ ap (λ (k : AlphabetType). putAt 0 (window (coding k) lent offset start n) memory) (sym e)
+
+pub of-plain : (kind : AlphabetType) (lent : List ℕ) (offset start n : ℕ) (memory out : List ℕ) → Bytes lent → coding kind .width ≡ 8
+    → out ≡ putAt 0 (fileBytes lent offset start n) memory → out ≡ putAt 0 (window (coding kind) lent offset start n) memory
+of-plain kind lent offset start n memory out bytes e w =
+    w ∙ ap (λ (xs : List ℕ). putAt 0 xs memory) (sym (window-plain (coding kind) (plain-of kind e) lent bytes offset start n))

@@ -1,21 +1,24 @@
 -- The laws of windows that other crates cite: each base by itself, a window in two parts, a window of a packed text.
 use mathlib.Core.Path.{_≡_, refl, sym, ap, ap₂, _∙_}
-use mathlib.Core.Bool.{true}
+use mathlib.Core.Bool.{Bool, true, false, _&&_}
 use mathlib.Core.List.{List, [], _∷_, _++_, map}
 use Prim.Native.Nat.{ℕ, zero, suc, _+_, _-_, _*_, _/_, _%_, _^_, _≤_, _<_}
 use native.Mathlib.Nat.{add-assoc, add-mul, add-zero, suc-mul, mul-le-mul-right, mod-eq-of-lt}
 use native.Mathlib.Omega.{arith}
+use borrow.Author.Tests.{leb-true}
+use lib.Dec.{leb}
 use lib.ListN.{length, getD, take, drop, length-map, length-drop, List·getD-map}
 use lib.Seq.{length-take-le, getD-take, getD-drop}
 use Rattle.bits.specs.Tables.{tabulate, at}
 use Rattle.bits.specs.Streams.{bitAt, word, cut}
-use Rattle.bits.specs.Packing.{pack, fileByte, codesFrom}
+use Rattle.bits.specs.Packing.{pack, fileByte, codesFrom, firstByte, endByte}
 use Rattle.bits.proofs.Tabulated.{length-tabulate, tabulate-ext, tabulate-add, is-tabulate, getD-within}
-use Rattle.bits.proofs.Words.{word-ext}
+use Rattle.bits.proofs.Words.{word-ext, bit-cong}
+use Rattle.bits.proofs.Files.{file-lent}
 use Rattle.bits.proofs.Packed.{codes-of-pack}
 use Rattle.alphabet.specs.Symbols.{Coding}
 use Rattle.alphabet.proofs.Laws.{Lawful}
-use Rattle.windows.specs.Window.{window}
+use Rattle.windows.specs.Window.{window, covers}
 
 map-append : (f : ℕ → ℕ) (xs ys : List ℕ) → map f (xs ++ ys) ≡ map f xs ++ map f ys
 map-append f [] ys = refl
@@ -102,3 +105,37 @@ window-of-text A law text lent offset start n room members own =
     ∙ map-tabulate (A .symbol) (λ i. at (map (A .code) text) (start + i) % 2 ^ b) n
     ∙ tabulate-ext n (λ i. A .symbol (at (map (A .code) text) (start + i) % 2 ^ b)) (λ i. A .canon (at text (start + i))) coded
     ∙ sym (is-tabulate n (λ i. A .canon (at text (start + i))) (A .canon 0) (map (A .canon) part) (length-map part (A .canon) ∙ len) given)
+
+both-true : (a b : Bool) → a && b ≡ true → (a ≡ true) × (b ≡ true)
+both-true true b e = (refl, e)
+both-true false b e = let q : _≡_ {A = ℕ} 0 1 = cc in absurd (omega arith)
+
+before-byte : (s k offset : ℕ) → s ≤ k → offset ≤ s / 8 → offset ≤ k / 8
+before-byte s k offset h l = omega arith
+
+within-bytes : (e k offset n : ℕ) → k < e → offset ≤ k / 8 → (e + 7) / 8 ≤ offset + n → k / 8 - offset < n
+within-bytes e k offset n h f l = omega arith
+
+-- the same where the lent bytes are the packing's and cover the window
+pub covered-text : (A : Coding) → Lawful A → (text lent : List ℕ) (offset start end : ℕ)
+    → start ≤ end → end ≤ length text
+    → ((i : ℕ) → i < end - start → A .member (at text (start + i)) ≡ true)
+    → ((j : ℕ) → j < length lent → at lent j ≡ at (pack (A .width) (map (A .code) text)) (offset + j))
+    → covers A lent offset start end ≡ true
+    → window A lent offset start (end - start) ≡ map (A .canon) (take (end - start) (drop start text))
+unfolding covers
+covered-text A law text lent offset start end order inner members same all =
+    let b : ℕ = A .width in
+    let packed : List ℕ = pack b (map (A .code) text) in
+    let whole : start + (end - start) ≡ end = omega arith in
+    let range = both-true (leb offset (firstByte b start)) (leb (endByte b end) (offset + length lent)) all in
+    let low : offset ≤ start * b / 8 = leb-true offset (firstByte b start) (range .0) in
+    let high : (end * b + 7) / 8 ≤ offset + length lent = leb-true (endByte b end) (offset + length lent) (range .1) in
+    window-of-text A law text lent offset start (end - start) (omega arith) members
+    (λ k from to.
+    let to′ : k < end * b = rw whole at to in
+    let first : offset ≤ k / 8 = before-byte (start * b) k offset from low in
+    let last : k / 8 - offset < length lent = within-bytes (end * b) k offset (length lent) to′ first high in
+    let place : offset + (k / 8 - offset) ≡ k / 8 = omega (arith, first) in
+    bit-cong 8 (fileByte lent offset) (at packed) k
+    (file-lent lent offset (k / 8) first ∙ same (k / 8 - offset) last ∙ ap (at packed) place))

@@ -6,7 +6,7 @@ use crate::rolling::roll;
 use alphabet::AlphabetType;
 use alphabet::decoding_array;
 ghost use mathlib.Core.Path.{_≡_};
-ghost use Prim.Native.Nat.{_+_, _*_, _/_, _%_, _^_, _<_, _≤_};
+ghost use Prim.Native.Nat.{_+_, _*_, _≤_};
 ghost use lib.ListN.{length};
 ghost use Rattle.bits.specs.Tables.{at};
 ghost use Rattle.bits.specs.Memory.{putAt};
@@ -72,23 +72,15 @@ pub fn three_bits(bytes: &[u8], offset: usize, start: usize, count: usize, out: 
     requires { ⌜ Fits start count 0 (length (now out)) ⌝ }
     ensures { λ _. ⌜ now (out .exit) ≡ putAt 0 (window (coding Dna3bit) (now (bytes .entry)) offset start count) (now (out .entry)) ⌝ }
 {
-    let table = decoding_array(AlphabetType::Dna3bit);
+    let kind = AlphabetType::Dna3bit;
+    let table = decoding_array(kind);
     let head = least((8 - start % 8) % 8, count);
-    roll(
-        AlphabetType::Dna3bit,
-        &table,
-        bytes,
-        offset,
-        start,
-        head,
-        out,
-        0,
-    );
+    roll(kind, &table, bytes, offset, start, head, out, 0);
     let block = (start + head) / 8;
     let most = (count - head) / 8;
     let done = head + blocks(&table, bytes, offset, block, most, out, head) * 8;
     roll(
-        AlphabetType::Dna3bit,
+        kind,
         &table,
         bytes,
         offset,

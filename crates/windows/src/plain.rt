@@ -1,6 +1,6 @@
 // Plain bytes: a window of Ascii or Unknown is a copy, with zeros where the file's bytes are not lent.
 ghost use mathlib.Core.Path.{_≡_};
-ghost use Prim.Native.Nat.{_+_, _-_, _^_, _≤_, min};
+ghost use Prim.Native.Nat.{_+_, _-_, _≤_, min};
 ghost use lib.ListN.{length, replicate};
 ghost use Rattle.bits.specs.Memory.{putAt};
 ghost use Rattle.windows.specs.Workers.{Fits, stretch, fileBytes};

@@ -9,7 +9,6 @@ use bits::place;
 ghost use mathlib.Core.Path.{_≡_};
 ghost use Prim.Native.Nat.{_+_, _*_, _≤_};
 ghost use lib.ListN.{length};
-ghost use Rattle.bits.specs.Tables.{tabulate};
 ghost use Rattle.bits.specs.Memory.{putAt};
 ghost use Rattle.alphabet.specs.Symbols.{coding};
 ghost use Rattle.alphabet.specs.declared.kind.AlphabetType.the-variants.{Dna2bit};
@@ -118,38 +117,21 @@ pub fn two_bits(bytes: &[u8], offset: usize, start: usize, count: usize, out: &m
     requires { ⌜ Fits start count 0 (length (now out)) ⌝ }
     ensures { λ _. ⌜ now (out .exit) ≡ putAt 0 (window (coding Dna2bit) (now (bytes .entry)) offset start count) (now (out .entry)) ⌝ }
 {
-    let table = decoding_array(AlphabetType::Dna2bit);
+    let kind = AlphabetType::Dna2bit;
+    let table = decoding_array(kind);
     if count < ROWS_FROM {
-        roll(
-            AlphabetType::Dna2bit,
-            &table,
-            bytes,
-            offset,
-            start,
-            count,
-            out,
-            0,
-        );
+        roll(kind, &table, bytes, offset, start, count, out, 0);
         return;
     }
     let head = least((4 - start % 4) % 4, count);
-    roll(
-        AlphabetType::Dna2bit,
-        &table,
-        bytes,
-        offset,
-        start,
-        head,
-        out,
-        0,
-    );
+    roll(kind, &table, bytes, offset, start, head, out, 0);
     let rows = row_table();
     let first = (start + head) / 4;
     let whole = (count - head) / 4;
     put_rows(&rows, bytes, offset, first, whole, out, head);
     let done = head + whole * 4;
     roll(
-        AlphabetType::Dna2bit,
+        kind,
         &table,
         bytes,
         offset,

@@ -1,8 +1,8 @@
 use mathlib.Core.Path.{_≡_, refl}
 use Prim.Native.Nat.{_+_, _-_, _≤_, zero-le}
 use native.Mathlib.Omega.{arith}
-use borrow.Author.Needs.{needs}
 use lib.ListN.{length, length-set}
+use borrow.Author.Needs.{needs}
 use Rattle.bits.specs.Tables.{at}
 use Rattle.bits.proofs.Put.{Filled, none-filled, one-filled}
 use Rattle.windows.specs.Workers.{stretch}

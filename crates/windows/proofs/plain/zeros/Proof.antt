@@ -2,8 +2,8 @@ use mathlib.Core.Path.{_≡_, refl, sym, ap, _∙_}
 use mathlib.Core.List.{List}
 use Prim.Native.Nat.{ℕ, _-_, _≤_, zero-le}
 use native.Mathlib.Omega.{arith}
-use borrow.Author.Needs.{needs}
 use lib.ListN.{length, length-set}
+use borrow.Author.Needs.{needs}
 use Rattle.bits.specs.Tables.{tabulate}
 use Rattle.bits.specs.Memory.{putAt}
 use Rattle.bits.proofs.Tabulated.{replicate-tabulate}

@@ -1,10 +1,6 @@
-use mathlib.Core.Path.{sym, ap, _∙_}
-use mathlib.Core.List.{List}
-use Prim.Native.Nat.{ℕ}
+use mathlib.Core.Path.{sym, _∙_}
 use borrow.Author.Needs.{needs}
-use Rattle.bits.specs.Memory.{putAt}
-use Rattle.alphabet.specs.Symbols.{coding}
-use Rattle.windows.proofs.WholeBytes.{window-plain, plain-of, five-of}
+use Rattle.windows.proofs.WholeBytes.{of-plain, five-of}
 use Rattle.windows.proofs.read.rolled.Statement.{statement}
 use Rattle.windows.proofs.read.rolled.Tie as tie
 
@@ -24,9 +20,7 @@ returns c =
     let b = t .before in
     let k = b .before .before in
     let a = k .before .args in
-    f .copy-file .ensures
-    ∙ ap (λ (xs : List ℕ). putAt 0 xs (a .out .now))
-    (sym (window-plain (coding (a .kind)) (plain-of (a .kind) (sym (b .bits-per-symbol .ensures) ∙ t .if1 .taken)) (a .bytes .now) (λ j. k .shared-slice-known .given j .fits) (a .offset) (a .start) (a .count)))
+    of-plain (a .kind) (a .bytes .now) (a .offset) (a .start) (a .count) (a .out .now) _ (λ j. k .shared-slice-known .given j .fits) (sym (b .bits-per-symbol .ensures) ∙ t .if1 .taken) (f .copy-file .ensures)
 
 decoding-array-requires : tie.Need-decoding-array-requires
 decoding-array-requires c κs = search needs

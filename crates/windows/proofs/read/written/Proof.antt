@@ -1,9 +1,6 @@
-use mathlib.Core.Path.{sym, ap, _∙_}
 use borrow.Author.Needs.{needs}
-use Rattle.bits.specs.Memory.{putAt}
-use Rattle.alphabet.specs.Symbols.{coding}
-use Rattle.alphabet.specs.declared.kind.AlphabetType.{AlphabetType}
-use Rattle.windows.specs.Window.{window}
+use Rattle.alphabet.specs.declared.kind.AlphabetType.the-variants.{Dna2bit, Dna3bit}
+use Rattle.windows.proofs.WholeBytes.{of-kind}
 use Rattle.windows.proofs.read.written.Statement.{statement}
 use Rattle.windows.proofs.read.written.Tie as tie
 
@@ -30,7 +27,7 @@ returns c =
     let w = c .before .before in
     let t = w .before .before in
     let a = t .before .before .before .before .args in
-    w .two-bits .ensures ∙ ap (λ (k : AlphabetType). putAt 0 (window (coding k) (a .bytes .now) (a .offset) (a .start) (a .count)) (a .out .now)) (sym (t .enum-told .given .1))
+    of-kind Dna2bit (a .kind) (a .bytes .now) (a .offset) (a .start) (a .count) (a .out .now) _ (t .enum-told .given .1) (w .two-bits .ensures)
 
 same-length-2 : tie.Need-same-length-2
 same-length-2 c = search needs
@@ -40,7 +37,7 @@ returns-2 c =
     let w = c .before .before in
     let t = w .before .before in
     let a = t .before .before .before .before .args in
-    w .three-bits .ensures ∙ ap (λ (k : AlphabetType). putAt 0 (window (coding k) (a .bytes .now) (a .offset) (a .start) (a .count)) (a .out .now)) (sym (t .enum-told2 .given .1))
+    of-kind Dna3bit (a .kind) (a .bytes .now) (a .offset) (a .start) (a .count) (a .out .now) _ (t .enum-told2 .given .1) (w .three-bits .ensures)
 
 same-length-3 : tie.Need-same-length-3
 same-length-3 c = search needs

@@ -1,14 +1,13 @@
+-- A mask of n ones is the remainder by 2 ^ n.
 use mathlib.Core.Path.{_≡_, ap, _∙_}
 use Prim.Native.Nat.{ℕ, _-_, _*_, _%_, _^_, _<_}
 use native.Mathlib.Nat.{one-mul}
 use native.Mathlib.Omega.{arith}
-use borrow.Author.Needs.{needs}
 use lib.Pow.{pow-pos, shl-exact}
 use lib.Bits.{bitAnd, and-mask}
+use borrow.Author.Needs.{needs}
 use Rattle.windows.proofs.rolling.low.Statement.{statement}
 use Rattle.windows.proofs.rolling.low.Tie as tie
-
--- A mask of n ones is the remainder by 2 ^ n.
 
 -- a bit shifted up
 one-shl : (n : ℕ) → n < 64 → 1 * 2 ^ n % 2 ^ 64 ≡ 2 ^ n

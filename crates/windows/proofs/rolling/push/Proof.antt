@@ -1,13 +1,12 @@
+-- The eight highest bits fall out, and the byte's bits meet zeros.
 use mathlib.Core.Path.{_≡_, ap, ap₂, _∙_}
 use Prim.Native.Nat.{ℕ, _+_, _*_, _%_, _^_}
 use native.Mathlib.Nat.{add-zero, mul-mod-left}
-use borrow.Author.Needs.{needs}
 use lib.Pow.{shl-shr, mod-pow-add}
 use lib.Bits.{bitOr, or-shifted}
+use borrow.Author.Needs.{needs}
 use Rattle.windows.proofs.rolling.push.Statement.{statement}
 use Rattle.windows.proofs.rolling.push.Tie as tie
-
--- The eight highest bits fall out, and the byte's bits meet zeros.
 
 -- a number shifted by a byte in 64 bits
 shifted : (n : ℕ) → n * 2 ^ 8 % 2 ^ 64 ≡ n % 2 ^ 56 * 2 ^ 8

@@ -2,8 +2,8 @@ use mathlib.Core.Path.{ap, _∙_}
 use mathlib.Core.List.{List}
 use Prim.Native.Nat.{ℕ}
 use native.Mathlib.Omega.{arith}
-use borrow.Author.Needs.{needs}
 use lib.ListN.{length-set}
+use borrow.Author.Needs.{needs}
 use Rattle.bits.specs.Memory.{putAt}
 use Rattle.windows.proofs.WholeBytes.{four-of-row, four-stores}
 use Rattle.windows.proofs.rows.put_row.Statement.{statement}
