@@ -1,4 +1,5 @@
 pub mod Digits
 pub mod Turns
+pub mod Blocks
 pub mod Search
 pub mod Ends

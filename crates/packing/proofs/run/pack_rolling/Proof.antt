@@ -13,9 +13,10 @@ use Rattle.bits.proofs.Hand.{hand-lt, hand-head}
 use Rattle.bits.proofs.Rolling.{Rolled, rolled-start, rolled-byte, turn, pushed-lt, turn-byte, turn-room}
 use Rattle.packing.specs.Run.{looked}
 use Rattle.packing.proofs.Digits.{looked-digit}
+use Rattle.packing.proofs.Blocks.{shift-fits}
 use Rattle.packing.proofs.Turns.{renamed, pack-end}
-use Rattle.packing.proofs.run.pack.Statement.{statement}
-use Rattle.packing.proofs.run.pack.Tie as tie
+use Rattle.packing.proofs.run.pack_rolling.Statement.{statement}
+use Rattle.packing.proofs.run.pack_rolling.Tie as tie
 
 abbrev Inv-loop : tie.InvT-loop
 Inv-loop table b p0 a0 text out₀ acc₀ p₀ w₀ i₀ i-end out acc p w i =
@@ -89,7 +90,9 @@ low-requires c κs = omega (arith, c .before .before .before .before .before .be
 push-requires : tie.Need-push-requires Inv-loop μ-loop
 push-requires c κs =
     let l = c .before .before .before .before .before .before in
-    (rolled-byte _ (hand-lt _ _ _ _) _ _ _ _ _ _ _ _ (l .loop .inv .3), (c .before .before .before .before .before .before .before .before .before .pre .narrow, rw (c .low .ensures) (mod-lt _ (pow-pos (c .before .before .before .before .before .before .before .before .before .args .b)))))
+    let a = c .before .before .before .before .before .before .before .before .before in
+    let narrow : a .args .b ≤ 8 = a .pre .narrow in
+    (omega arith, (shift-fits (l .loop .acc) (a .args .b) 8 (rolled-byte _ (hand-lt _ _ _ _) _ _ _ _ _ _ _ _ (l .loop .inv .3)) (omega arith), rw (c .low .ensures) (mod-lt _ (pow-pos (a .args .b)))))
 
 add-p : tie.Need-add-p Inv-loop μ-loop
 add-p c = omega (arith, c .before .before .before .before .before .before .before .loop .inv .3 .few, c .before .before .before .before .before .before .before .before .before .before .pre .narrow)
@@ -150,8 +153,8 @@ returns c =
     let a = l .before .before .before .args in
     pack-end (a .b) (a .p0) (a .a0) (a .table .now) (a .text .now) (a .out .now) (l .loop .i) (l .loop .acc) (l .loop .p) (l .loop .w) (l .loop .out) (omega (arith, c .loop-test .left)) (l .loop .inv .3)
 
-pub pack-spec : {M : Type 1} → statement M
-pack-spec =
+pub pack-rolling-spec : {M : Type 1} → statement M
+pack-rolling-spec =
     tie.close
     (tie.spec
     Inv-loop
