@@ -1,8 +1,8 @@
 -- Packing in blocks: eight digits of b bits go in at once, and b bytes come out. And packing in two runs, one behind the other.
-use mathlib.Core.Path.{_≡_, refl, sym, ap, ap₂, _∙_}
+use mathlib.Core.Path.{_≡_, refl, sym, ap, ap₂, _∙_, subst}
 use mathlib.Core.List.{List, [], _∷_, _++_, append-assoc, append-nil}
 use Prim.Native.Nat.{ℕ, zero, suc, _+_, _-_, _*_, _/_, _%_, _^_, _≤_, _<_}
-use native.Mathlib.Nat.{lt-of-lt-of-le, add-suc, add-assoc, zero-add, zero-mul, add-mul, mul-comm, mul-le-mul-right, div-lt-iff-lt-mul, mul-add-div-right, mul-add-mod-self-right}
+use native.Mathlib.Nat.{lt-of-lt-of-le, add-suc, add-assoc, zero-add, zero-mul, add-mul, mul-comm, mul-le-mul-right, div-lt-iff-lt-mul, mul-add-div-right, mul-add-mod-self-right, mod-one, div-one}
 use native.Mathlib.Decide.{decLt}
 use native.Mathlib.Omega.{arith}
 use borrow.Author.Tests.{lt-ltb, le-ltb}
@@ -17,9 +17,10 @@ use Rattle.bits.specs.Memory.{front}
 use Rattle.bits.proofs.Tabulated.{length-tabulate, tabulate-ext, tabulate-add}
 use Rattle.bits.proofs.Words.{word-add, word-lt, word-high, word-low, word-ext, word-whole, word-bit, bit-cong, bit-lt}
 use Rattle.bits.proofs.Hand.{after-tail, hand-lt}
-use Rattle.bits.proofs.Rolling.{Rolled}
+use Rattle.bits.proofs.Rolling.{Rolled, turn-byte}
 use Rattle.packing.proofs.Digits.{at-map}
-use Rattle.packing.specs.Run.{Packs, looked, byteAbove, spilled}
+use Rattle.packing.proofs.Turns.{renamed}
+use Rattle.packing.specs.Run.{Ready, Packs, looked, byteAbove, spilled}
 
 -- ---- what a shift keeps
 
@@ -127,6 +128,25 @@ gather-lt b f k j g h l e =
 -- what is pushed for a byte of a text is its digit
 pub looked-at : (b : ℕ) (table text : List ℕ) (k v : ℕ) → k < length text → v ≡ at text k → at table v % 2 ^ b ≡ at (looked table text) k % 2 ^ b
 looked-at b table text k v h q = ap (λ (x : ℕ). at table x % 2 ^ b) q ∙ ap (λ (x : ℕ). x % 2 ^ b) (sym (at-map (at table) text k h))
+
+-- ---- digits of a byte
+
+-- where no bits pend, a digit of eight bits is the next byte
+pub turn-whole : (s : ℕ → ℕ) (bits : (i : ℕ) → s i < 2) (memory : List ℕ) (i v : ℕ) (out : List ℕ) → Rolled s 8 0 memory i 0 0 i out → v < 256 → v % 2 ^ 8 ≡ word s (0 + i * 8) 8 → i < length memory
+    → Rolled s 8 0 memory (i + 1) 0 0 (i + 1) (set out i v)
+turn-whole s bits memory i v out r small e room =
+    let whole : 0 * 2 ^ 8 + v % 2 ^ 8 ≡ v = omega arith in
+    let none : 0 ≡ (0 * 2 ^ 8 + v % 2 ^ 8) % 2 ^ 0 = sym (mod-one (0 * 2 ^ 8 + v % 2 ^ 8)) in
+    let byte : v ≡ (0 * 2 ^ 8 + v % 2 ^ 8) / 2 ^ 0 = sym (div-one (0 * 2 ^ 8 + v % 2 ^ 8) ∙ whole) in
+    renamed (turn-byte s bits 8 0 memory i 0 0 i (v % 2 ^ 8) 0 out r e refl (omega arith) room) none refl refl (ap (λ (y : ℕ). set out i y) byte)
+
+-- ---- a width by its value
+
+pub ready-at : {b k p a n room : ℕ} → b ≡ k → Ready b p a n room × ((b ≤ 7) × (n % 8 ≡ 0)) → Ready k p a n room × ((k ≤ 7) × (n % 8 ≡ 0))
+ready-at {b} {k} {p} {a} {n} {room} e r = subst (λ (x : ℕ). Ready x p a n room × ((x ≤ 7) × (n % 8 ≡ 0))) e r
+
+pub packs-at : {b k p a : ℕ} {digits memory : List ℕ} {bits pending : ℕ} {out : List ℕ} → b ≡ k → Packs k p a digits memory bits pending out → Packs b p a digits memory bits pending out
+packs-at {b} {k} {p} {a} {digits} {memory} {bits} {pending} {out} e r = subst (λ (x : ℕ). Packs x p a digits memory bits pending out) (sym e) r
 
 -- ---- one run behind another
 

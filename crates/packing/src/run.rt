@@ -1,4 +1,5 @@
 // The loops that pack.
+use crate::words::bounded;
 use crate::words::byte_at;
 use crate::words::low;
 use crate::words::push;
@@ -82,10 +83,61 @@ fn pack_rolling(table: &[u8; 256], b: usize, p0: usize, a0: u64, text: &[u8], ou
     }
 }
 
+// Packs a text of whole blocks. The widths of the alphabets stand here as constants, so that the compiler makes a loop for each, without shifts by a variable.
+fn pack_width(table: &[u8; 256], b: usize, p: usize, a0: u64, text: &[u8], out: &mut [u8]) -> u64
+    requires { ⌜ Ready b p a0 (length (now text)) (length (now out)) × ((b ≤ 7) × (length (now text) % 8 ≡ 0)) ⌝ }
+    ensures { λ r. ⌜ Packs b p a0 (looked (now (table .entry)) (now (text .entry))) (now (out .entry)) p r (now (out .exit)) ⌝ }
+{
+    if b == 2 {
+        return pack_blocks(table, 2, p, a0, text, out);
+    }
+    if b == 3 {
+        return pack_blocks(table, 3, p, a0, text, out);
+    }
+    if b == 4 {
+        return pack_blocks(table, 4, p, a0, text, out);
+    }
+    if b == 5 {
+        return pack_blocks(table, 5, p, a0, text, out);
+    }
+    pack_blocks(table, b, p, a0, text, out)
+}
+
+// Packs whole blocks, and then what is left behind what pends.
+fn pack_narrow(table: &[u8; 256], b: usize, p: usize, a0: u64, text: &[u8], out: &mut [u8]) -> Tail
+    requires { ⌜ Ready b p a0 (length (now text)) (length (now out)) × (b ≤ 7) ⌝ }
+    ensures { λ r. ⌜ Packs b p a0 (looked (now (table .entry)) (now (text .entry))) (now (out .entry)) (r .bits) (r .pending) (now (out .exit)) ⌝ }
+{
+    let n = text.len() / 8 * 8;
+    let w = n / 8 * b;
+    let acc = pack_width(table, b, p, a0, &text[0..n], out);
+    pack_rolling(table, b, p, acc, &text[n..], &mut out[w..])
+}
+
+// Packs digits of a byte each, where no bits pend: they are the bytes.
+fn pack_whole(table: &[u8; 256], text: &[u8], out: &mut [u8])
+    requires { ⌜ Ready 8 0 0 (length (now text)) (length (now out)) ⌝ }
+    ensures { λ _. ⌜ Packs 8 0 0 (looked (now (table .entry)) (now (text .entry))) (now (out .entry)) 0 0 (now (out .exit)) ⌝ }
+{
+    for i in 0..text.len() {
+        out[i] = bounded(table[place(text[i])]);
+    }
+}
+
 // Packs a text's entries in a table, b bits each, behind p0 bits of value a0.
 pub fn pack(table: &[u8; 256], b: usize, p0: usize, a0: u64, text: &[u8], out: &mut [u8]) -> Tail
     requires { ⌜ Ready b p0 a0 (length (now text)) (length (now out)) ⌝ }
     ensures { λ r. ⌜ Packs b p0 a0 (looked (now (table .entry)) (now (text .entry))) (now (out .entry)) (r .bits) (r .pending) (now (out .exit)) ⌝ }
 {
+    if b < 8 {
+        return pack_narrow(table, b, p0, a0, text, out);
+    }
+    if p0 == 0 {
+        pack_whole(table, text, out);
+        return Tail {
+            bits: 0,
+            pending: 0,
+        };
+    }
     pack_rolling(table, b, p0, a0, text, out)
 }

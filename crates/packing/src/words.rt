@@ -8,6 +8,13 @@ pub fn wide(byte: u8) -> u64
     byte as u64
 }
 
+// A byte, with the bound that its type has.
+pub fn bounded(byte: u8) -> u8
+    ensures { λ r. ⌜ (r ≡ byte) × (r < 256) ⌝ }
+{
+    byte
+}
+
 // The n low bits of x.
 pub fn low(x: u64, n: usize) -> u64
     requires { ⌜ n < 64 ⌝ }
