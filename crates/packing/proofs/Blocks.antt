@@ -148,6 +148,22 @@ ready-at {b} {k} {p} {a} {n} {room} e r = subst (λ (x : ℕ). Ready x p a n roo
 pub packs-at : {b k p a : ℕ} {digits memory : List ℕ} {bits pending : ℕ} {out : List ℕ} → b ≡ k → Packs k p a digits memory bits pending out → Packs b p a digits memory bits pending out
 packs-at {b} {k} {p} {a} {digits} {memory} {bits} {pending} {out} e r = subst (λ (x : ℕ). Packs x p a digits memory bits pending out) (sym e) r
 
+module _ {b p a n room : ℕ} (ready : Ready b p a n room) (wide : 8 ≤ b) (none : p ≡ 0) where
+  eight : b ≡ 8
+  eight = omega (arith, ready .narrow)
+
+  nothing : a ≡ 0
+  nothing = let small : a < 2 ^ 0 = subst (λ (x : ℕ). a < 2 ^ x) none (ready .small) in omega arith
+
+  pub ready-whole : Ready 8 0 0 n room
+  ready-whole =
+      subst (λ (x : ℕ). Ready 8 0 x n room) nothing (subst (λ (x : ℕ). Ready 8 x a n room) none (subst (λ (x : ℕ). Ready x p a n room) eight ready))
+
+  pub packs-whole : {digits memory : List ℕ} {bits pending : ℕ} {out : List ℕ} → Packs 8 0 0 digits memory bits pending out → Packs b p a digits memory bits pending out
+  packs-whole {digits} {memory} {bits} {pending} {out} r =
+      subst (λ (x : ℕ). Packs x p a digits memory bits pending out) (sym eight)
+      (subst (λ (x : ℕ). Packs 8 x a digits memory bits pending out) (sym none) (subst (λ (x : ℕ). Packs 8 0 x digits memory bits pending out) (sym nothing) r))
+
 -- ---- one run behind another
 
 -- the bits of the digits from digit n on

@@ -1,4 +1,5 @@
 use borrow.Author.Needs.{needs}
+use Rattle.packing.proofs.Blocks.{ready-whole, packs-whole}
 use Rattle.packing.proofs.run.pack.Statement.{statement}
 use Rattle.packing.proofs.run.pack.Tie as tie
 use Rattle.packing.proofs.run.pack.Reads as reads
@@ -21,7 +22,7 @@ returns c = search needs
 
 -- src/run.rt:136:9
 pack-whole-requires : tie.Need-pack-whole-requires
-pack-whole-requires c κs = search needs
+pack-whole-requires c κs = ready-whole (c .before .before .before .before .before .pre) (c .before .before .if1 .left) (c .before .if2 .taken)
 
 -- src/run.rt:137:9
 same-length-2 : tie.Need-same-length-2
@@ -29,7 +30,9 @@ same-length-2 c = search needs
 
 -- src/run.rt:137:9
 returns-2 : tie.Need-returns-2
-returns-2 c = search needs
+returns-2 c =
+    let t = c .before .before .before .before in
+    packs-whole (t .before .before .before .before .pre) (t .before .if1 .left) (t .if2 .taken) (c .before .before .pack-whole .ensures)
 
 -- src/run.rt:142:5
 pack-rolling-requires : tie.Need-pack-rolling-requires
