@@ -1,10 +1,10 @@
 -- What a run over a text is handed, and what comes of it: digits of b bits behind bits that pend. The public calls' definitions are in Encode.antt; this is the
 -- contract between them and the loop, which knows a table and no alphabet.
-use Prim.Native.Nat.{ℕ, _+_, _*_, _/_, _%_, _^_, _≤_, _<_}
+use Prim.Native.Nat.{ℕ, _+_, _-_, _*_, _/_, _%_, _^_, _≤_, _<_}
 use mathlib.Core.Path.{_≡_}
-use mathlib.Core.List.{List, map}
-use lib.ListN.{length}
-use Rattle.bits.specs.Tables.{at}
+use mathlib.Core.List.{List, map, _++_}
+use lib.ListN.{length, take, drop}
+use Rattle.bits.specs.Tables.{at, tabulate}
 use Rattle.bits.specs.Streams.{word, cut}
 use Rattle.bits.specs.Packing.{atHand}
 use Rattle.bits.specs.Memory.{front}
@@ -28,6 +28,14 @@ pub record Packs (b p a : ℕ) (digits memory : List ℕ) (bits pending : ℕ) (
   pub left : bits ≡ (p + length digits * b) % 8
   pub value : pending ≡ word (atHand p a b digits) ((p + length digits * b) / 8 * 8) ((p + length digits * b) % 8)
   pub wrote : out ≡ front (cut 8 (atHand p a b digits) 0 ((p + length digits * b) / 8)) memory
+
+-- byte t of the b bytes that stand above the p low bits of a word, the most significant first
+abbrev pub byteAbove : ℕ → ℕ → ℕ → ℕ → ℕ
+byteAbove x p b t = x / 2 ^ (p + 8 * (b - 1 - t)) % 256
+
+-- memory after n bytes of a word are stored from place w on
+abbrev pub spilled : ℕ → ℕ → ℕ → ℕ → ℕ → List ℕ → List ℕ
+spilled x p b w n memory = (take w memory ++ tabulate n (byteAbove x p b)) ++ drop (w + n) memory
 
 -- r is the index of the first byte of a text whose entry in a table is FF, and the text's length where there is none
 pub record Searched (table text : List ℕ) (r : ℕ) : Type 0 where

@@ -8,6 +8,13 @@ pub fn wide(byte: u8) -> u64
     byte as u64
 }
 
+// A byte, with the bound that its type has.
+pub fn bounded(byte: u8) -> u8
+    ensures { λ r. ⌜ (r ≡ byte) × (r < 256) ⌝ }
+{
+    byte
+}
+
 // The n low bits of x.
 pub fn low(x: u64, n: usize) -> u64
     requires { ⌜ n < 64 ⌝ }
@@ -18,7 +25,7 @@ pub fn low(x: u64, n: usize) -> u64
 
 // The accumulator with the b bits of c behind it.
 pub fn push(acc: u64, c: u64, b: usize) -> u64
-    requires { ⌜ (acc < 256) × ((b ≤ 8) × (c < 2 ^ b)) ⌝ }
+    requires { ⌜ (b < 64) × ((acc * 2 ^ b < 2 ^ 64) × (c < 2 ^ b)) ⌝ }
     ensures { λ r. ⌜ r ≡ acc * 2 ^ b + c ⌝ }
 {
     (acc << b) | c
@@ -30,6 +37,14 @@ pub fn top(acc: u64, p: usize) -> u8
     ensures { λ r. ⌜ r ≡ acc / 2 ^ p ⌝ }
 {
     (acc >> p) as u8
+}
+
+// The eight bits above the n low ones.
+pub fn byte_at(x: u64, n: usize) -> u8
+    requires { ⌜ n < 64 ⌝ }
+    ensures { λ r. ⌜ r ≡ x / 2 ^ n % 256 ⌝ }
+{
+    ((x >> n) % 256) as u8
 }
 
 // A byte of p bits and zeros behind them.
