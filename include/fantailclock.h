@@ -43,6 +43,13 @@ typedef struct { uint64_t alphabet, seen, pending_bits, pending, has_bad, bad_po
 typedef struct { uint64_t refusal; fc_encoder next; } fc_encoder_started;
 typedef struct { uint64_t refusal, count; fc_encoder next; } fc_updated;
 
+/* A stream's state: bits still to be passed over (0: done, or never due), bases still to come, bits taken and not used and their value. */
+typedef struct { uint64_t alphabet, skip, budget, pending_bits, pending; } fc_stream;
+typedef struct { uint64_t refusal; fc_stream next; } fc_stream_started;
+
+/* status: 1 Hungry (give more source), 2 Done (the budget is used), 3 Full (give more memory); 0 on a refusal. */
+typedef struct { uint64_t refusal, taken, written, status; fc_stream next; } fc_streamed;
+
 /* The version of this header's structs: 1. */
 uint64_t fc_abi_version(void);
 
@@ -84,6 +91,33 @@ fc_packed fc_encode_sequence(uint64_t alphabet, const uint8_t *text, size_t len,
 
 /* The bytes of a packed file that hold the bases from `start` to `end`, not including `end`; the same formula where start exceeds end. Refuses by 9, 2. */
 fc_range fc_byte_range_for_bases(uint64_t start, uint64_t end, uint64_t bits);
+
+/* Reads of a window: the bases from `start` to `end`, not including `end`, of a packed file of which `bytes` are the bytes from `byte_offset` on, at the
+ * front of `out`. A window whose end is at most its start is empty, and is answered before any question. Every byte that is not lent reads as zero, so a
+ * short fetch reads on as code zero (a run of T in Dna2bit): compare what was fetched with what was asked for, or use fc_decode_covered.
+ * They refuse by 8, 2, 4, the covered read by 8, 2, 3, 4; `count` is end - start. */
+fc_count fc_decode_substring_from_bytes_at_offset(uint64_t alphabet, const uint8_t *bytes, size_t len, uint64_t byte_offset, uint64_t start, uint64_t end, uint8_t *out, size_t room);
+
+/* The same with byte_offset 0. */
+fc_count fc_decode_substring_from_bytes(uint64_t alphabet, const uint8_t *bytes, size_t len, uint64_t start, uint64_t end, uint8_t *out, size_t room);
+
+/* The same with byte_offset and start 0: the first seq_len bases. */
+fc_count fc_decode_string_from_bytes(uint64_t alphabet, const uint8_t *bytes, size_t len, uint64_t seq_len, uint8_t *out, size_t room);
+
+/* The covered read: the same bases, refused by 3 where a byte of the window's range is not lent. */
+fc_count fc_decode_covered(uint64_t alphabet, const uint8_t *bytes, size_t len, uint64_t byte_offset, uint64_t start, uint64_t end, uint8_t *out, size_t room);
+
+/* The engines behind the reads, with the same answers: for any alphabet, for Dna2bit, for Dna3bit. */
+fc_count fc_decode_rolling(uint64_t alphabet, const uint8_t *bytes, size_t len, uint64_t byte_offset, uint64_t start, uint64_t end, uint8_t *out, size_t room);
+fc_count fc_decode_2bit(const uint8_t *bytes, size_t len, uint64_t byte_offset, uint64_t start, uint64_t end, uint8_t *out, size_t room);
+fc_count fc_decode_3bit(const uint8_t *bytes, size_t len, uint64_t byte_offset, uint64_t start, uint64_t end, uint8_t *out, size_t room);
+
+/* A stream that has taken nothing. For the window from `start` to `end` the skip is start * bits per symbol modulo 8, the budget end - start, and the source
+ * begins at the first byte of fc_byte_range_for_bases. Refuses by 8, 6. */
+fc_stream_started fc_stream_new(uint64_t alphabet, uint64_t skip, uint64_t budget);
+
+/* Takes of `source` just the bytes that it needs, `taken` of them, and writes `written` bases at the front of `out`. Refuses by 8, 1. */
+fc_streamed fc_stream_read(fc_stream state, const uint8_t *source, size_t len, uint8_t *out, size_t room);
 
 #ifdef __cplusplus
 }

@@ -8,7 +8,7 @@ use lib.ListN.{length, replicate}
 use Rattle.bits.specs.Memory.{front}
 use Rattle.alphabet.specs.declared.kind.AlphabetType.{AlphabetType}
 use Rattle.alphabet.specs.declared.kind.AlphabetType.the-variants.{Dna2bit, Dna3bit, DnaIupac, Protein, Ascii, Unknown}
-use Rattle.alphabet.specs.Questions.{by}
+use Rattle.alphabet.specs.Questions.{by, accepted, refused}
 use Rattle.alphabet.specs.Symbols.{bytesOf, coding}
 use Rattle.alphabet.specs.Names.{numberOf}
 use Rattle.alphabet.specs.Guess.{guessOf}
@@ -16,6 +16,11 @@ use Rattle.packing.specs.declared.sequence.Encoded.{Encoded}
 use Rattle.packing.specs.declared.range.Range.{Range}
 use Rattle.packing.specs.Encode.{encodeAt, encodeMemory}
 use Rattle.packing.specs.Range.{rangeAt}
+use Rattle.windows.specs.declared.read.Read.{Read}
+use Rattle.windows.specs.Window.{readAt, readMemory, coveredAt, coveredMemory}
+use Rattle.streaming.specs.Stream.{freshStream, streamAt, streamMemory, endAt}
+use Rattle.streaming.specs.Answers.{streamedReply, endedReply}
+use Rattle.streaming.specs.Count.{nextBy}
 
 -- output memory of nine bytes, none of them zero
 abbrev pub blank : List ℕ
@@ -28,6 +33,12 @@ pub data Row : Type 0 where
   refuses : AlphabetType → String → ℕ → ℕ → Row
   -- a byte range
   range : ℕ → ℕ → ℕ → ℕ → ℕ → Row
+  -- bytes at offset 0 and a window, read into blank memory: its symbols; and the covered read's refusal
+  reads : AlphabetType → List ℕ → ℕ → ℕ → String → Row
+  uncovered : AlphabetType → List ℕ → ℕ → ℕ → Row
+  -- a fresh stream's alphabet, skip and budget, a source and four bytes of memory that stay as they are: the bytes taken, the bases written and the status by
+  -- number (1 is Hungry); and the bases outstanding, by which an end call is then refused
+  starves : AlphabetType → ℕ → ℕ → List ℕ → ℕ → ℕ → ℕ → ℕ → Row
   -- the guess for a text
   guess : String → AlphabetType → Row
   -- the encoding table's entries for the bytes of a text
@@ -40,6 +51,14 @@ Holds (packs kind text bytes) =
 Holds (refuses kind text position byte) =
     (encodeAt (numberOf kind) (bytesOf text) 9 ≡ Encoded.Refused (by 5 (position ∷ byte ∷ []))) × (encodeMemory (numberOf kind) (bytesOf text) blank ≡ blank)
 Holds (range start end bits from to) = rangeAt start end bits ≡ Range.Bytes from to
+Holds (reads kind lent start end text) =
+    (readAt (numberOf kind) 0 start end 9 ≡ Read.Bases (length (bytesOf text))) × (readMemory (numberOf kind) lent 0 start end blank ≡ front (bytesOf text) blank)
+Holds (uncovered kind lent start end) =
+    (coveredAt (numberOf kind) lent 0 start end 9 ≡ Read.Refused (by 3 [])) × (coveredMemory (numberOf kind) lent 0 start end blank ≡ blank)
+Holds (starves kind skip budget source taken written status outstanding) =
+    (streamedReply (streamAt (freshStream kind skip budget) source 4) ≡ accepted (taken ∷ written ∷ status ∷ []))
+    × ((streamMemory (freshStream kind skip budget) source (replicate 4 0xaa) ≡ replicate 4 0xaa)
+    × (endedReply (endAt (nextBy (streamAt (freshStream kind skip budget) source 4))) ≡ refused 7 (outstanding ∷ [])))
 Holds (guess text kind) = guessOf (bytesOf text) ≡ kind
 Holds (codes kind text entries) = map (coding kind .code) (bytesOf text) ≡ entries
 
@@ -61,8 +80,13 @@ rows =
     ∷ guess "ACGTS" DnaIupac
     ∷ guess "ACGX" Protein
     ∷ guess "acgt" Ascii
+    ∷ reads Dna3bit (0x05 ∷ 0x39 ∷ 0x77 ∷ []) 2 6 "GTNR"
     ∷ range 2 6 3 0 3
     ∷ range 5 5 2 1 2
+    ∷ reads Dna2bit (0x9c ∷ []) 0 6 "ACGTTT"
+    ∷ uncovered Dna2bit (0x9c ∷ []) 0 6
+    ∷ reads Protein (0xe8 ∷ []) 0 1 "X"
+    ∷ starves Dna3bit 6 4 (0x05 ∷ []) 1 0 1 4
     ∷ codes Dna2bit "ACGTN" (2 ∷ 1 ∷ 3 ∷ 0 ∷ 0xff ∷ [])
     ∷ codes Dna3bit "TNRYUX" (3 ∷ 4 ∷ 5 ∷ 6 ∷ 7 ∷ 0xff ∷ [])
     ∷ codes DnaIupac "NACMVn" (0 ∷ 1 ∷ 2 ∷ 3 ∷ 15 ∷ 0xff ∷ [])
