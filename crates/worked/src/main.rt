@@ -1,0 +1,138 @@
+// Runs rows of the worked table, and UCSC's published example, on the code itself; what it prints is held to the rules' table.
+use alphabet::Refusal;
+use coder::Encoded;
+use coder::EncoderStarted;
+use coder::Finalized;
+use coder::Read;
+use coder::SequenceEncoder;
+use coder::Status;
+use coder::StreamStarted;
+use coder::Streamed;
+use coder::StreamingDecoder;
+use coder::Updated;
+use libc::STDOUT_FILENO;
+
+fn print(text: &[u8]) {
+    io::write_all(STDOUT_FILENO, text);
+}
+
+fn print_byte(byte: u8) {
+    io::print_hex(STDOUT_FILENO, byte as u64, 2);
+}
+
+// The bytes in hexadecimal, and a line's end.
+fn print_bytes(bytes: &[u8]) {
+    for i in 0..bytes.len() {
+        print_byte(bytes[i]);
+    }
+    print(b"\n");
+}
+
+fn print_refusal(refusal: Refusal) {
+    print(b"refused ");
+    io::print_decimal(STDOUT_FILENO, refusal.number() as u64);
+    print(b"\n");
+}
+
+// The first `count` bytes of memory, where it has so many.
+fn print_front(memory: &[u8], count: usize) {
+    if count <= memory.len() {
+        print_bytes(&memory[0..count]);
+    }
+}
+
+fn pack(label: &[u8], alphabet: u64, text: &[u8]) {
+    print(label);
+    let mut out = [0xAA; 9];
+    match coder::encode_sequence(alphabet, text, &mut out) {
+        Encoded::Wrote(count) => print_front(&out, count),
+        Encoded::Refused(refusal) => print_refusal(refusal),
+    }
+}
+
+// A text by one `update`, then `finalize`.
+fn pack_by_update(alphabet: u64, text: &[u8]) {
+    let EncoderStarted::Fresh(encoder) = SequenceEncoder::new(alphabet) else {
+        return;
+    };
+    let mut out = [0xAA; 9];
+    let Updated::Wrote(count, next) = encoder.update(text, &mut out) else {
+        return;
+    };
+    print(b"update ACNT: ");
+    print_front(&out, count);
+    print(b"finalize: ");
+    match next.finalize(&mut out) {
+        Finalized::Wrote(count) => print_front(&out, count),
+        Finalized::Refused(refusal, _) => print_refusal(refusal),
+    }
+}
+
+// The same, as letters.
+fn print_text(memory: &[u8], count: usize) {
+    if count <= memory.len() {
+        print(&memory[0..count]);
+        print(b"\n");
+    }
+}
+
+fn print_read(label: &[u8], read: Read, out: &[u8]) {
+    print(label);
+    match read {
+        Read::Bases(count) => print_text(out, count),
+        Read::Refused(refusal) => print_refusal(refusal),
+    }
+}
+
+fn windows() {
+    let mut out = [0xAA; 9];
+    let bytes = [0x80u8];
+    let read = coder::decode_substring_from_bytes_at_offset(0, &bytes, 1, 2, 5, &mut out);
+    print_read(b"80 at 1, Dna2bit, 2 to 5: ", read, &out);
+    let covered = coder::decode_covered(0, &bytes, 1, 2, 5, &mut out);
+    print_read(b"covered: ", covered, &out);
+    let mut none = [0u8; 0];
+    let far = coder::decode_string_from_bytes(0, &bytes, 1152921504606846976, &mut none);
+    print_read(b"end 2^60, no memory: ", far, &out);
+    let farther = coder::decode_string_from_bytes(0, &bytes, 1152921504606846977, &mut none);
+    print_read(b"end 2^60 + 1: ", farther, &out);
+}
+
+fn print_status(status: Status) {
+    match status {
+        Status::Hungry => print(b"Hungry\n"),
+        Status::Done => print(b"Done\n"),
+        Status::Full => print(b"Full\n"),
+    }
+}
+
+fn stream() {
+    let StreamStarted::Fresh(stream) = StreamingDecoder::new(1, 3, 0) else {
+        return;
+    };
+    let source = [0u8; 0];
+    let mut out = [0xAA; 4];
+    let Streamed::Moved {
+        taken: _,
+        written: _,
+        status,
+        next: _,
+    } = stream.read(&source, &mut out)
+    else {
+        return;
+    };
+    print(b"stream, skip 3, budget 0, no source: ");
+    print_status(status);
+}
+
+fn main() {
+    pack(b"UCSC TCAG: ", 0, b"TCAG");
+    pack(b"Dna2bit ACGT: ", 0, b"ACGT");
+    pack(b"Dna3bit ACGTNRYU: ", 1, b"ACGTNRYU");
+    pack(b"DnaIupac NACM: ", 2, b"NACM");
+    pack(b"Protein MK*: ", 3, b"MK*");
+    pack(b"Dna2bit ACNT: ", 0, b"ACNT");
+    pack_by_update(0, b"ACNT");
+    windows();
+    stream();
+}
