@@ -21,7 +21,8 @@ symbols_of() {
     packing) echo encoder_new encoder_update encoder_finalize encode_sequence byte_range_for_bases ;;
     windows) echo decode_substring_from_bytes_at_offset decode_substring_from_bytes decode_string_from_bytes decode_covered \
         decode_rolling decode_2bit decode_3bit ;;
-    streaming) echo stream_new stream_read stream_end ;;
+    streaming) echo stream_new stream_read ;;
+    ending) echo stream_end ;;
     esac
 }
 
@@ -33,7 +34,7 @@ find_layers() {
         exit 1
     fi
     present=$(echo "$symbols" | awk '$2 == "T" { print $3 }')
-    for layer in alphabet packing windows streaming; do
+    for layer in alphabet packing windows streaming ending; do
         missing=
         for symbol in $(symbols_of $layer); do
             echo "$present" | grep -qx "fc_$symbol" || missing="$missing fc_$symbol"

@@ -85,5 +85,9 @@ extern "C" {
 extern "C" {
     pub fn fc_stream_new(alphabet: u64, skip: u64, budget: u64) -> StreamStarted;
     pub fn fc_stream_read(state: Stream, source: *const u8, len: usize, out: *mut u8, room: usize) -> Streamed;
+}
+
+#[cfg(have_ending)]
+extern "C" {
     pub fn fc_stream_end(state: Stream) -> Ended;
 }

@@ -2,7 +2,7 @@
 //! copy of as many bytes as the call writes. See ../README.md.
 
 // While a layer is absent from the archive, what only that layer uses stands idle.
-#![cfg_attr(not(all(have_alphabet, have_packing, have_windows, have_streaming)), allow(dead_code, unused))]
+#![cfg_attr(not(all(have_alphabet, have_packing, have_windows, have_streaming, have_ending)), allow(dead_code, unused))]
 
 #[allow(dead_code)] // the benchmark calls only a part of it
 mod abi;

@@ -8,10 +8,13 @@ pub enum Layer {
     Packing,
     Windows,
     Streaming,
+    /// The stream's end call.
+    Ending,
 }
 
 impl Layer {
-    pub const ALL: [Layer; 4] = [Layer::Alphabet, Layer::Packing, Layer::Windows, Layer::Streaming];
+    pub const ALL: [Layer; 5] =
+        [Layer::Alphabet, Layer::Packing, Layer::Windows, Layer::Streaming, Layer::Ending];
 
     /// Whether the archive that this program was linked with has the layer.
     pub fn present(self) -> bool {
@@ -20,6 +23,7 @@ impl Layer {
             Layer::Packing => cfg!(have_packing),
             Layer::Windows => cfg!(have_windows),
             Layer::Streaming => cfg!(have_streaming),
+            Layer::Ending => cfg!(have_ending),
         }
     }
 }
@@ -88,7 +92,7 @@ entries! {
 
     StreamNew: "stream_new" Streaming ("alphabet skip budget"; "") -> ("refusal"; STREAM),
     StreamRead: "stream_read" Streaming (STREAM; "source out") -> ("refusal taken written status"; STREAM),
-    StreamEnd: "stream_end" Streaming (STREAM; "") -> ("refusal outstanding"; ""),
+    StreamEnd: "stream_end" Ending (STREAM; "") -> ("refusal outstanding"; ""),
     StreamList: "(list) stream" Streaming ("alphabet skip budget"; "source") -> ("refusal taken written status"; ""),
 }
 

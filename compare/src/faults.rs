@@ -65,7 +65,7 @@ faults! {
     StreamBitLost Streaming "a stream's pending bit is lost",
     FullBeforeDone Streaming "Full is answered before Done",
     HungryBeforeFull Streaming "Hungry is answered before Full",
-    EndIgnoresSkip Streaming "the end call does not ask for the skip",
+    EndIgnoresSkip Ending "the end call does not ask for the skip",
     SkipOfEight Streaming "a skip of 8 is taken",
     BudgetNarrowed Streaming "a budget is narrowed to 32 bits",
     BeyondStream Streaming "a byte is written beyond the count of a stream",
@@ -125,7 +125,7 @@ impl Fault {
             Layer::Alphabet => self.alphabet(call, before, words, out),
             Layer::Packing => self.packing(call, before, words, out),
             Layer::Windows => self.windows(call, before, words, out),
-            Layer::Streaming => self.streaming(call, words),
+            Layer::Streaming | Layer::Ending => self.streaming(call, words),
         }
     }
 

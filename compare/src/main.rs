@@ -1,7 +1,7 @@
 //! The comparison: the port's archive, the Rust original and a model of document 01 in one process. See ../README.md.
 
 // While a layer is absent from the archive, what only that layer uses stands idle.
-#![cfg_attr(not(all(have_alphabet, have_packing, have_windows, have_streaming)), allow(dead_code, unused))]
+#![cfg_attr(not(all(have_alphabet, have_packing, have_windows, have_streaming, have_ending)), allow(dead_code, unused))]
 
 mod abi;
 #[cfg(have_alphabet)]
@@ -72,6 +72,8 @@ fn cases(layer: Layer, check: &mut Checker, options: &Options) -> Go {
         Layer::Windows => windows::cases(check, random, scale),
         #[cfg(have_streaming)]
         Layer::Streaming => streaming::cases(check, random, scale),
+        #[cfg(have_ending)]
+        Layer::Ending => streaming::ends(check, random, scale),
         #[allow(unreachable_patterns)] // reached only for a layer that the archive lacks
         _ => Ok(()),
     }

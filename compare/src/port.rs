@@ -13,7 +13,7 @@ pub fn answer(call: &Call, memory: &mut Memory, fault: Option<Fault>) -> Vec<u64
         #[cfg(have_windows)]
         Layer::Windows => windows::answer(call, memory, fault),
         #[cfg(have_streaming)]
-        Layer::Streaming => streaming::answer(call, memory, fault),
+        Layer::Streaming | Layer::Ending => streaming::answer(call, memory, fault),
         #[allow(unreachable_patterns)] // reached only for a layer that the archive lacks
         layer => unreachable!("{layer:?} is not in the archive"),
     }
@@ -184,6 +184,7 @@ mod streaming {
             match call.entry {
                 Entry::StreamNew => words(abi::fc_stream_new(alphabet, skip, budget)),
                 Entry::StreamRead => words(abi::fc_stream_read(state, source, len, out.as_mut_ptr(), out.len())),
+                #[cfg(have_ending)]
                 Entry::StreamEnd => words(abi::fc_stream_end(state)),
                 _ => unreachable!("{:?}", call.entry),
             }

@@ -69,7 +69,7 @@ pub fn opinions(call: &Call, before: &Memory, expected: &[u64]) -> Vec<Opinion> 
         Layer::Alphabet => of_alphabet(&mut panel),
         Layer::Packing => of_packing(&mut panel),
         Layer::Windows => of_windows(&mut panel),
-        Layer::Streaming => of_streaming(&mut panel),
+        Layer::Streaming | Layer::Ending => of_streaming(&mut panel),
     }
     panel.opinions
 }

@@ -12,11 +12,35 @@ pub fn cases(check: &mut Checker, random: &mut Random, scale: u64) -> Go {
         every_cut(check, random, alphabet)?;
         for _ in 0..2000 * scale {
             random_read(check, random, alphabet)?;
-            random_end(check, random, alphabet)?;
             random_list(check, random, alphabet)?;
         }
     }
     beyond_alphabets(check, random)
+}
+
+/// End calls from every small state, from random and forged ones, and with numbers that name no alphabet.
+#[cfg(have_ending)]
+pub fn ends(check: &mut Checker, random: &mut Random, scale: u64) -> Go {
+    for alphabet in 0..=5 {
+        for (skip, pending_bits) in skips() {
+            for budget in (0..=24).chain([1 << 32, u64::MAX]) {
+                let state = [alphabet, skip, budget, pending_bits, random.below(1 << pending_bits)];
+                check.call(&Call::new(Entry::StreamEnd, &state))?;
+            }
+        }
+        for _ in 0..2000 * scale {
+            random_end(check, random, alphabet)?;
+        }
+    }
+    for alphabet in beyond(5).into_iter().cycle().take(3000) {
+        random_end(check, random, alphabet)?;
+    }
+    Ok(())
+}
+
+/// Every skip, and every count of pending bits.
+fn skips() -> impl Iterator<Item = (u64, u64)> {
+    (0..8).map(|skip| (skip, 0)).chain((1..8).map(|bits| (0, bits)))
 }
 
 fn starts(check: &mut Checker, random: &mut Random, scale: u64) -> Go {
@@ -34,15 +58,13 @@ fn starts(check: &mut Checker, random: &mut Random, scale: u64) -> Go {
     Ok(())
 }
 
-/// Every skip and every count of pending bits with every small budget, source and memory, and the end call after each.
+/// Every skip and every count of pending bits with every small budget, source and memory.
 fn every_read(check: &mut Checker, random: &mut Random, alphabet: u64) -> Go {
     let most = 24 / model::width(alphabet) + 2;
-    let skips = (0..8).map(|skip| (skip, 0));
-    for (skip, pending_bits) in skips.chain((1..8).map(|bits| (0, bits))) {
+    for (skip, pending_bits) in skips() {
         for budget in (0..=most).chain([1 << 32, u64::MAX]) {
             let pending = random.below(1 << pending_bits);
             let state = [alphabet, skip, budget, pending_bits, pending];
-            check.call(&Call::new(Entry::StreamEnd, &state))?;
             for len in 0..=3 {
                 for room in 0..=most as usize {
                     let source = random.bytes(len);
@@ -91,6 +113,7 @@ fn random_read(check: &mut Checker, random: &mut Random, alphabet: u64) -> Go {
     check.call(&Call::new(Entry::StreamRead, &state).text(&source).room(room))
 }
 
+#[cfg(have_ending)]
 fn random_end(check: &mut Checker, random: &mut Random, alphabet: u64) -> Go {
     let mut state = if random.one_in(4) { forged_state(random, alphabet) } else { sound_state(random, alphabet) };
     if random.one_in(2) {
@@ -105,7 +128,6 @@ fn beyond_alphabets(check: &mut Checker, random: &mut Random) -> Go {
         let len = random.below(5) as usize;
         let (source, room) = (random.bytes(len), random.below(9) as usize);
         check.call(&Call::new(Entry::StreamRead, &state).text(&source).room(room))?;
-        check.call(&Call::new(Entry::StreamEnd, &state))?;
     }
     Ok(())
 }
@@ -129,9 +151,10 @@ fn every_cut(check: &mut Checker, random: &mut Random, alphabet: u64) -> Go {
     Ok(())
 }
 
-/// A read and an end call.
-fn with_end(length: usize, room: usize) -> [Step; 2] {
-    [Step { length, room, last: false }, Step { length: 0, room: 0, last: true }]
+/// A read and, where the port has one, an end call.
+fn with_end(length: usize, room: usize) -> Vec<Step> {
+    let ends = cfg!(have_ending).then_some(Step { length: 0, room: 0, last: true });
+    [Step { length, room, last: false }].into_iter().chain(ends).collect()
 }
 
 fn random_list(check: &mut Checker, random: &mut Random, alphabet: u64) -> Go {
@@ -140,7 +163,8 @@ fn random_list(check: &mut Checker, random: &mut Random, alphabet: u64) -> Go {
     let mut steps = Vec::new();
     for _ in 0..reads {
         let (length, room) = (random.below(longest) as usize, random.below(longest * 3) as usize);
-        steps.extend(&with_end(length, room)[..1 + usize::from(random.one_in(4))]);
+        let kept = 1 + usize::from(random.one_in(4));
+        steps.extend(with_end(length, room).into_iter().take(kept));
     }
     let len = random.below(reads * longest + 1) as usize;
     let bytes = random.bytes(len);
