@@ -60,7 +60,14 @@ fn pack_blocks(table: &[u8; 256], b: usize, p: usize, a0: u64, text: &[u8], out:
 }
 
 // The same, a symbol at a time.
-fn pack_rolling(table: &[u8; 256], b: usize, p0: usize, a0: u64, text: &[u8], out: &mut [u8]) -> Tail
+fn pack_rolling(
+    table: &[u8; 256],
+    b: usize,
+    p0: usize,
+    a0: u64,
+    text: &[u8],
+    out: &mut [u8],
+) -> Tail
     requires { ⌜ Ready b p0 a0 (length (now text)) (length (now out)) ⌝ }
     ensures { λ r. ⌜ Packs b p0 a0 (looked (now (table .entry)) (now (text .entry))) (now (out .entry)) (r .bits) (r .pending) (now (out .exit)) ⌝ }
 {
