@@ -30,7 +30,7 @@ fn overlay(table: &[u8; 256], text: &[u8], i: usize) -> u8
     m
 }
 
-// The search from byte i on, a byte at a time.
+// The search, a byte at a time, where no byte before `start` has the entry FF.
 fn find_from(table: &[u8; 256], text: &[u8], start: usize) -> usize
     requires { ⌜ Passed (now table) (now text) start ⌝ }
     ensures { λ r. ⌜ Searched (now (table .entry)) (now (text .entry)) r ⌝ }
