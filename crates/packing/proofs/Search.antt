@@ -3,8 +3,9 @@ use mathlib.Core.Path.{_≡_, refl, sym, ap, ap₂, _∙_}
 use mathlib.Core.Bool.{Bool, true, false, cond, not, true≢false}
 use mathlib.Core.List.{List, [], _∷_}
 use mathlib.Core.Logic.{_⊎_}
-use Prim.Native.Nat.{ℕ, zero, suc, _+_, _≤_, _<_}
+use Prim.Native.Nat.{ℕ, zero, suc, _+_, _-_, _≤_, _<_}
 use native.Mathlib.Nat.{add-zero, add-suc, suc-add, le-of-suc-le-suc, not-suc-le-zero}
+use native.Mathlib.Decide.{decLt}
 use native.Mathlib.Omega.{arith}
 use borrow.Author.Tests.{eq-eqb, ne-eqb}
 use lib.Dec.{eqb}
@@ -16,7 +17,17 @@ use Rattle.alphabet.specs.Symbols.{Coding, coding}
 use Rattle.alphabet.proofs.Laws.{Packed, Plain, shape}
 use Rattle.packing.specs.declared.first.First.{First}
 use Rattle.packing.specs.Encode.{firstFrom}
-use Rattle.packing.specs.Run.{Searched}
+use Rattle.packing.specs.Run.{Passed, Overlaid, Searched}
+
+-- eight entries more that are not FF
+pub passed-eight : (table text : List ℕ) (i r : ℕ) → Passed table text i → i + 8 ≤ length text → Overlaid table text i 8 r → (r ≡ 0xff → ⊥) → Passed table text (i + 8)
+passed-eight table text i r p room o other = record { within = room; passed = λ j h e. go j h e (decLt j i) }
+  where
+    go : (j : ℕ) → j < i + 8 → at table (at text j) ≡ 0xff → Dec (j < i) → ⊥
+    go j h e (yes l) = p .passed j l e
+    go j h e (no m) =
+        let same : i + (j - i) ≡ j = omega arith in
+        other (o .told (j - i) (omega arith) (ap (λ (x : ℕ). at table (at text x)) same ∙ e))
 
 module _ (A : Coding) where
   -- every byte is a member

@@ -42,3 +42,12 @@ pub record Searched (table text : List ℕ) (r : ℕ) : Type 0 where
   pub within : r ≤ length text
   pub passed : (j : ℕ) → j < r → at table (at text j) ≡ 0xff → ⊥
   pub stopped : r < length text → at table (at text r) ≡ 0xff
+
+-- no byte of a text before place i has the entry FF
+pub record Passed (table text : List ℕ) (i : ℕ) : Type 0 where
+  pub within : i ≤ length text
+  pub passed : (j : ℕ) → j < i → at table (at text j) ≡ 0xff → ⊥
+
+-- r is FF if one of the n entries from place i on is FF
+pub record Overlaid (table text : List ℕ) (i n r : ℕ) : Type 0 where
+  pub told : (j : ℕ) → j < n → at table (at text (i + j)) ≡ 0xff → r ≡ 0xff

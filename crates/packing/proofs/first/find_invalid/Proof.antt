@@ -1,38 +1,34 @@
-use mathlib.Core.Path.{_≡_, refl, sym, ap, _∙_}
-use Prim.Native.Nat.{ℕ, _≤_, _<_, _-_}
+use mathlib.Core.Path.{_≡_, refl}
+use Prim.Native.Nat.{_-_, _*_, _/_, _%_, _≤_}
 use native.Mathlib.Nat.{not-suc-le-zero}
 use native.Mathlib.Omega.{arith}
-use borrow.Author.Count.{below-more}
 use borrow.Author.Needs.{needs}
 use lib.ListN.{length}
-use Rattle.bits.specs.Tables.{at}
+use Rattle.packing.specs.Run.{Passed}
+use Rattle.packing.proofs.Search.{passed-eight}
 use Rattle.packing.proofs.first.find_invalid.Statement.{statement}
 use Rattle.packing.proofs.first.find_invalid.Tie as tie
 
 abbrev Inv-loop : tie.InvT-loop
-Inv-loop table text i₀ i-end i = (i-end ≡ length text) × (i ≤ i-end) × ((j : ℕ) → j < i → at table (at text j) ≡ 0xff → ⊥)
+Inv-loop table text n i₀ i = (n ≡ length text / 8 * 8) × (i % 8 ≡ 0) × (i ≤ n) × Passed table text i
 
 abbrev μ-loop : tie.MeasureT-loop
-μ-loop table text i₀ i-end i = i-end - i
+μ-loop table text n i₀ i = n - i
 
--- the entry that was read is the text's
-entry : (c : tie.After-place Inv-loop μ-loop) → at (c .before .before .before .before .before .args .table .now) (at (c .before .before .before .before .before .args .text .now) (c .before .before .before .loop .i)) ≡ at (c .before .before .before .before .before .args .table .now) (c .place .result)
-entry c = ap (at (c .before .before .before .before .before .args .table .now)) (sym (c .place .ensures .0))
+mul-n : tie.Need-mul-n Inv-loop μ-loop
+mul-n c = search needs
 
 loop-holds : tie.Need-loop-holds Inv-loop μ-loop
-loop-holds c = (refl, search needs, λ j h. absurd (not-suc-le-zero h))
+loop-holds c = (refl, refl, omega arith, record { within = omega arith; passed = λ j h. absurd (not-suc-le-zero h) })
 
-shared-slice-read-place : tie.Need-shared-slice-read-place Inv-loop μ-loop
-shared-slice-read-place c = search needs
+overlay-requires : tie.Need-overlay-requires Inv-loop μ-loop
+overlay-requires c κs = search needs
 
-place-requires : tie.Need-place-requires Inv-loop μ-loop
-place-requires c κs = search needs
-
-element-copy-out-if1 : tie.Need-element-copy-out-if1 Inv-loop μ-loop
-element-copy-out-if1 c = c .place .ensures .1
+find-from-requires : tie.Need-find-from-requires Inv-loop μ-loop
+find-from-requires c κs = c .before .before .before .loop .inv .3
 
 returns : tie.Need-returns Inv-loop μ-loop
-returns c = let l = c .before .before .before .before .before in record { within = omega arith; passed = l .loop .inv .2; stopped = λ h. entry (c .before .before) ∙ c .if1 .taken }
+returns c = search needs
 
 add-i : tie.Need-add-i Inv-loop μ-loop
 add-i c = search needs
@@ -41,10 +37,17 @@ loop-less : tie.Need-loop-less Inv-loop μ-loop
 loop-less c = search needs
 
 loop-again : tie.Need-loop-again Inv-loop μ-loop
-loop-again c = let l = c .before .before .before .before .before in (refl, search needs, below-more _ _ (l .loop .inv .2) (λ e. c .if1 .left (sym (entry (c .before .before)) ∙ e)))
+loop-again c =
+    let h = c .before .before .before in
+    let o = h .loop in
+    let a = h .before .before .args in
+    (refl, omega arith, omega arith, passed-eight (a .table .now) (a .text .now) (o .i) (c .before .overlay .result) (o .inv .3) (omega arith) (c .before .overlay .ensures) (c .if1 .left))
+
+find-from-requires-2 : tie.Need-find-from-requires-2 Inv-loop μ-loop
+find-from-requires-2 c κs = c .before .loop .inv .3
 
 returns-2 : tie.Need-returns-2 Inv-loop μ-loop
-returns-2 c = let l = c .before in record { within = search needs; passed = λ j h. l .loop .inv .2 j (omega arith); stopped = λ h. absurd (omega arith) }
+returns-2 c = search needs
 
 pub find-invalid-spec : {M : Type 1} → statement M
 find-invalid-spec =
@@ -52,12 +55,13 @@ find-invalid-spec =
     (tie.spec
     Inv-loop
     μ-loop
+    mul-n
     loop-holds
-    shared-slice-read-place
-    place-requires
-    element-copy-out-if1
+    overlay-requires
+    find-from-requires
     returns
     add-i
     loop-less
     loop-again
+    find-from-requires-2
     returns-2)
