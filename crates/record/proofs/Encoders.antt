@@ -81,7 +81,7 @@ module _ (l : EncoderList) where
       code-run (l .fresh) (l .calls) (l .follows)
       ∙ ap (λ (s : SequenceEncoder). run s (callsOf (l .calls))) (sym (started-fresh (alphabetIn l) (l .fresh) (sym (l .new .met) ∙ l .started) .1))
 
-  list-packs : Finished l → Packed (alphabetIn l) (textIn l) (bytesIn l)
+  pub list-packs : Finished l → Packed (alphabetIn l) (textIn l) (bytesIn l)
   list-packs h =
       subst (λ (os : List Outcome). Packed (alphabetIn l) (acceptedText (callsOf (l .calls)) os) (written 0 os)) (sym list-run)
       (fresh-packs (alphabetIn l) fresh-known (callsOf (l .calls)) (ap (finished (callsOf (l .calls))) (sym list-run) ∙ h))
