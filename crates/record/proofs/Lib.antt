@@ -8,3 +8,5 @@ pub mod Encoders
 pub mod Every
 pub mod Reading
 pub mod Streamed
+pub mod StreamCounts
+pub mod Demand

@@ -43,7 +43,7 @@ module _ (kind : AlphabetType) (q budget : ℕ) (lent : List ℕ) where
   abbrev bases : ℕ → ℕ → List ℕ
   bases = basesBetween A q budget lent
 
-  length-bases : (k n : ℕ) → length (bases k n) ≡ n
+  pub length-bases : (k n : ℕ) → length (bases k n) ≡ n
   unfolding basesBetween cut
   length-bases k n =
       length-map (cut (A .width) (bitAt 8 (at lent)) (q + k * A .width) n) (A .symbol) ∙ length-tabulate n (λ i. word (bitAt 8 (at lent)) (q + k * A .width + i * A .width) (A .width))
@@ -69,20 +69,20 @@ module _ (kind : AlphabetType) (q budget : ℕ) (lent : List ℕ) where
       abbrev n : ℕ
       n = next .k - p .k
 
-      call : Goes kind q budget lent p (length (sourceFor c)) (length (memoryFor c)) next
+      pub call : Goes kind q budget lent p (length (sourceFor c)) (length (memoryFor c)) next
       call = goes kind q budget lent p (length (sourceFor c)) (length (memoryFor c)) small g
 
-      source-is : sourceFor c ≡ sourceOf lent (takenBy A q p) (length (sourceFor c))
+      pub source-is : sourceFor c ≡ sourceOf lent (takenBy A q p) (length (sourceFor c))
       source-is = run ∙ ap (λ (x : ℕ). sourceOf lent x (length (sourceFor c))) so-far
 
-      answers : c .result ≡ Streamed.Moved (takenBy A q next - takenBy A q p) n (cond (next .due) Hungry (statusOf (budget - next .k) (length (memoryFor c) - n))) (S next)
+      pub answers : c .result ≡ Streamed.Moved (takenBy A q next - takenBy A q p) n (cond (next .due) Hungry (statusOf (budget - next .k) (length (memoryFor c) - n))) (S next)
       answers = c .met .0 ∙ (λ i. streamAt (given i) (source-is i) (length (memoryFor c))) ∙ call .answer
 
       leaves : now (c .exit .1 .1 .0) ≡ front (bases (p .k) n) (memoryFor c)
       unfolding streamMemory
       leaves = c .met .1 ∙ (λ i. streamMemory (given i) (source-is i) (memoryFor c)) ∙ ap (λ (l : List ℕ). front l (memoryFor c)) (call .wrote)
 
-      next-taken : taken + tookBy (c .result) ≡ takenBy A q next
+      pub next-taken : taken + tookBy (c .result) ≡ takenBy A q next
       next-taken = omega (arith, so-far, ap tookBy answers, call .grows .1)
 
       writes : take (valueIn 1 (streamedReply (c .result))) (now (c .exit .1 .1 .0)) ≡ bases (p .k) n
@@ -193,3 +193,7 @@ module _ (kind : AlphabetType) (q budget : ℕ) (lent : List ℕ) where
   pub no-bases : bases 0 0 ≡ []
   unfolding basesBetween cut tabulate
   no-bases = refl
+
+  pub none-taken : takenBy A q (begin q) ≡ 0
+  unfolding fedAt
+  none-taken = sym (ap (λ (x : Fed). x .taken) (fed-fresh kind q budget lent))
