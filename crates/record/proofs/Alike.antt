@@ -25,7 +25,7 @@ use Rattle.record.specs.Texts.{Members, Extends}
 abbrev digitAt : Coding → List ℕ → ℕ → ℕ
 digitAt A text i = at (digitsOf A text) i
 
-member-digit : (A : Coding) (v : ℕ) → A .member v ≡ true → digitOf A v ≡ A .code v
+pub member-digit : (A : Coding) (v : ℕ) → A .member v ≡ true → digitOf A v ≡ A .code v
 unfolding digitOf
 member-digit A v m = rw m
 

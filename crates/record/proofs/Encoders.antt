@@ -21,7 +21,7 @@ use Rattle.record.specs.Runs.{nextEncoder, unlessFinal, run}
 use Rattle.record.specs.Texts.{Packed}
 use Rattle.record.specs.Made.{EncodeCall}
 use Rattle.record.specs.EncoderLists.{CodeCall, updates, finalizes, Ends, Follows, callsOf, outcomesOf, EncoderList, alphabetIn, Finished, textIn, bytesIn}
-use Rattle.record.specs.EncoderRecord.{alphabetFor, textFor, before, afterwards, EncoderRecord}
+use Rattle.record.specs.Record.{alphabetFor, textFor, before, afterwards}
 use Rattle.record.proofs.Tallies.{fresh-tally}
 use Rattle.record.proofs.Whole.{fresh-packs}
 use Rattle.record.proofs.AtOnce.{encode-packed, encode-accepted}
@@ -76,19 +76,19 @@ module _ (l : EncoderList) where
   fresh-known : known (alphabetIn l) ≡ true
   fresh-known = started-fresh (alphabetIn l) (l .fresh) (sym (l .new .met) ∙ l .started) .0
 
-  list-run : outcomesOf (l .calls) ≡ run (freshEncoder (kindOf (alphabetIn l))) (callsOf (l .calls))
+  pub list-run : outcomesOf (l .calls) ≡ run (freshEncoder (kindOf (alphabetIn l))) (callsOf (l .calls))
   list-run =
       code-run (l .fresh) (l .calls) (l .follows)
       ∙ ap (λ (s : SequenceEncoder). run s (callsOf (l .calls))) (sym (started-fresh (alphabetIn l) (l .fresh) (sym (l .new .met) ∙ l .started) .1))
 
-  list-packs : Finished l → Packed (alphabetIn l) (textIn l) (bytesIn l)
+  pub list-packs : Finished l → Packed (alphabetIn l) (textIn l) (bytesIn l)
   list-packs h =
       subst (λ (os : List Outcome). Packed (alphabetIn l) (acceptedText (callsOf (l .calls)) os) (written 0 os)) (sym list-run)
       (fresh-packs (alphabetIn l) fresh-known (callsOf (l .calls)) (ap (finished (callsOf (l .calls))) (sym list-run) ∙ h))
 
 -- ---- `encode_sequence`
 
-once-packed :
+pub once-packed :
     (e : EncodeCall) (alphabet : ℕ) (text packed : List ℕ) →
     Packed alphabet text packed →
     alphabetFor e ≡ alphabet →
@@ -101,19 +101,7 @@ once-packed e alphabet text packed p a t room =
       e .met .1 ∙ ap₂ (λ (x : ℕ) (y : List ℕ). encodeMemory x y (before e)) a t ∙ one .1,
     )
 
-once-accepted : (e : EncodeCall) (count : ℕ) → e .result ≡ Encoded.Wrote count → Packed (alphabetFor e) (textFor e) (take count (afterwards e))
+pub once-accepted : (e : EncodeCall) (count : ℕ) → e .result ≡ Encoded.Wrote count → Packed (alphabetFor e) (textFor e) (take count (afterwards e))
 once-accepted e count r =
     subst (λ (m : List ℕ). Packed (alphabetFor e) (textFor e) (take count m)) (sym (e .met .1))
     (encode-accepted (alphabetFor e) (textFor e) (before e) count (sym (e .met .0) ∙ r))
-
--- ---- the claim
-
-pub encoder-record : EncoderRecord
-encoder-record =
-    record {
-      tallied = λ l. list-run l ∙ fresh-tally (kindOf (alphabetIn l)) (callsOf (l .calls));
-      packs = list-packs;
-      at-once = λ l h e. once-packed e (alphabetIn l) (textIn l) (bytesIn l) (list-packs l h);
-      encodes = once-accepted;
-      alike = λ alphabet. alike (kindOf alphabet);
-    }

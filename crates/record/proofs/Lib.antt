@@ -6,3 +6,7 @@ pub mod Alike
 pub mod AtOnce
 pub mod Encoders
 pub mod Every
+pub mod Reading
+pub mod Streamed
+pub mod StreamCounts
+pub mod Demand

@@ -13,3 +13,4 @@ pub mod Feeding
 pub mod AllCalls
 pub mod Pieces
 pub mod Ending
+pub mod Closing

@@ -10,7 +10,7 @@ ghost use mathlib.Core.Bool.{_||_};
 ghost use mathlib.Core.Path.{_≡_};
 ghost use lib.Dec.{eqb, ltb};
 ghost use lib.ListN.{length};
-ghost use Rattle.streaming.specs.Stream.{soundStream, startStreamAt, streamAt, streamMemory};
+ghost use Rattle.streaming.specs.Stream.{soundStream, startStreamAt, streamAt, streamMemory, endAt};
 
 // `skip` bits are to be passed over first (0: done, or never due); `budget` bases are to come; `bits` bits, of value `pending`, are taken and not used.
 pub struct StreamingDecoder {
@@ -44,7 +44,7 @@ pub enum Streamed {
     Refused(Refusal, StreamingDecoder),
 }
 
-// What the end call answers. The call itself lands with the record.
+// What the end call answers.
 pub enum Ended {
     Complete,
     Refused(Refusal, StreamingDecoder),
@@ -115,5 +115,22 @@ impl StreamingDecoder {
             return carry(self, source, start, out);
         }
         pump(self, source, start, out)
+    }
+
+    // The end of the stream: with the skip due or bases to come it is refused by 7, with the bases outstanding. A state that is
+    // refused comes back as it was.
+    pub fn end(self) -> Ended
+        ensures { λ r. ⌜ r ≡ endAt self ⌝ }
+    {
+        if !self.is_sound() {
+            return Ended::Refused(Refusal::Unsound, self);
+        }
+        if 0 < self.skip {
+            return Ended::Refused(Refusal::Outstanding(self.budget), self);
+        }
+        if 0 < self.budget {
+            return Ended::Refused(Refusal::Outstanding(self.budget), self);
+        }
+        Ended::Complete
     }
 }

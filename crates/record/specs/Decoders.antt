@@ -1,0 +1,179 @@
+-- Windows of what an encoder's list wrote, and the decoders' calls. States the words of demand 3's sentence on windows, and document 01, "The record", its
+-- list of decoders.
+use Prim.Native.Nat.{ℕ, _-_, _*_, _≤_, _<_}
+use mathlib.Core.Path.{_≡_}
+use mathlib.Core.Bool.{Bool, true, false, cond}
+use mathlib.Core.List.{List, map}
+use denote.Ref.{now}
+use lib.ListN.{length, take, drop}
+use Rattle.bits.specs.Tables.{at}
+use Rattle.bits.specs.Streams.{bitAt}
+use Rattle.bits.specs.Packing.{fileByte}
+use Rattle.bits.specs.Memory.{front}
+use Rattle.alphabet.specs.declared.kind.AlphabetType.the-variants.{Dna2bit, Dna3bit}
+use Rattle.alphabet.specs.Symbols.{Coding}
+use Rattle.alphabet.specs.Names.{numberOf, numbered}
+use Rattle.packing.specs.declared.range.Range.{Range}
+use Rattle.windows.specs.declared.read.Read.{Read}
+use Rattle.record.specs.Made.{RangeCall, AtOffsetCall, SubstringCall, StringCall, CoveredCall, TwoBitCall, ThreeBitCall, RollingCall}
+use Rattle.record.specs.EncoderLists.{EncoderList, alphabetIn, Finished, textIn, bytesIn}
+
+-- ---- a window
+
+-- the coding of a list's alphabet
+abbrev pub codingIn : EncoderList → Coding
+codingIn l = numbered (alphabetIn l)
+
+-- a window of a list whose `finalize` was accepted, s < e ≤ n, and the bytes that an accepted `byte_range_for_bases`, asked about it, named
+pub record Window (l : EncoderList) : Type 0 where
+  pub finished : Finished l
+  pub s : ℕ
+  pub e : ℕ
+  pub some : s < e
+  pub inside : e ≤ length (textIn l)
+  pub range : RangeCall
+  pub start-asked : range .args .0 ≡ s
+  pub end-asked : range .args .1 .0 ≡ e
+  pub bits-asked : range .args .1 .1 .0 ≡ codingIn l .width
+  pub from : ℕ
+  pub to : ℕ
+  pub named : range .result ≡ Range.Bytes from to
+
+-- its symbols: those that bytes s to e - 1 of the text stand for
+abbrev pub symbolsIn : (l : EncoderList) → Window l → List ℕ
+symbolsIn l w = map (codingIn l .canon) (take (w .e - w .s) (drop (w .s) (textIn l)))
+
+-- bytes lent for it: the file's from byte `offset` to the range's end, the bits of the window's own symbols as they were written, whatever all others hold
+pub record Lent (l : EncoderList) (w : Window l) (offset : ℕ) (lent : List ℕ) : Type 0 where
+  pub ends : length lent ≡ w .to - offset
+  pub own : (i : ℕ) → w .s * codingIn l .width ≤ i → i < w .e * codingIn l .width → bitAt 8 (fileByte lent offset) i ≡ bitAt 8 (at (bytesIn l)) i
+
+-- ---- a decoder's call
+
+pub data DecoderCall : Type 0 where
+  at-offset : AtOffsetCall → DecoderCall
+  substring : SubstringCall → DecoderCall
+  string : StringCall → DecoderCall
+  covered : CoveredCall → DecoderCall
+  two-bit : TwoBitCall → DecoderCall
+  three-bit : ThreeBitCall → DecoderCall
+  rolling : RollingCall → DecoderCall
+
+-- what it is handed, what it answers, and its memory afterwards
+pub record Handed : Type 0 where
+  pub alphabet : ℕ
+  pub lent : List ℕ
+  pub offset : ℕ
+  pub start : ℕ
+  pub end : ℕ
+  pub memory : List ℕ
+  pub result : Read
+  pub afterwards : List ℕ
+
+-- where a decoder does not take the alphabet, it serves its own; where it does not take byte_offset or start, they are fixed at 0
+abbrev pub handed : DecoderCall → Handed
+handed (at-offset c) =
+    record {
+      alphabet = c .args .0;
+      lent = now (c .args .1 .0);
+      offset = c .args .1 .1 .0;
+      start = c .args .1 .1 .1 .0;
+      end = c .args .1 .1 .1 .1 .0;
+      memory = now (c .args .1 .1 .1 .1 .1 .0);
+      result = c .result;
+      afterwards = now (c .exit .1 .1 .1 .1 .1 .0);
+    }
+handed (substring c) =
+    record {
+      alphabet = c .args .0;
+      lent = now (c .args .1 .0);
+      offset = 0;
+      start = c .args .1 .1 .0;
+      end = c .args .1 .1 .1 .0;
+      memory = now (c .args .1 .1 .1 .1 .0);
+      result = c .result;
+      afterwards = now (c .exit .1 .1 .1 .1 .0);
+    }
+handed (string c) =
+    record {
+      alphabet = c .args .0;
+      lent = now (c .args .1 .0);
+      offset = 0;
+      start = 0;
+      end = c .args .1 .1 .0;
+      memory = now (c .args .1 .1 .1 .0);
+      result = c .result;
+      afterwards = now (c .exit .1 .1 .1 .0);
+    }
+handed (covered c) =
+    record {
+      alphabet = c .args .0;
+      lent = now (c .args .1 .0);
+      offset = c .args .1 .1 .0;
+      start = c .args .1 .1 .1 .0;
+      end = c .args .1 .1 .1 .1 .0;
+      memory = now (c .args .1 .1 .1 .1 .1 .0);
+      result = c .result;
+      afterwards = now (c .exit .1 .1 .1 .1 .1 .0);
+    }
+handed (two-bit c) =
+    record {
+      alphabet = numberOf Dna2bit;
+      lent = now (c .args .0);
+      offset = c .args .1 .0;
+      start = c .args .1 .1 .0;
+      end = c .args .1 .1 .1 .0;
+      memory = now (c .args .1 .1 .1 .1 .0);
+      result = c .result;
+      afterwards = now (c .exit .1 .1 .1 .1 .0);
+    }
+handed (three-bit c) =
+    record {
+      alphabet = numberOf Dna3bit;
+      lent = now (c .args .0);
+      offset = c .args .1 .0;
+      start = c .args .1 .1 .0;
+      end = c .args .1 .1 .1 .0;
+      memory = now (c .args .1 .1 .1 .1 .0);
+      result = c .result;
+      afterwards = now (c .exit .1 .1 .1 .1 .0);
+    }
+handed (rolling c) =
+    record {
+      alphabet = c .args .0;
+      lent = now (c .args .1 .0);
+      offset = c .args .1 .1 .0;
+      start = c .args .1 .1 .1 .0;
+      end = c .args .1 .1 .1 .1 .0;
+      memory = now (c .args .1 .1 .1 .1 .1 .0);
+      result = c .result;
+      afterwards = now (c .exit .1 .1 .1 .1 .1 .0);
+    }
+
+-- whether it takes a byte_offset
+abbrev pub takesOffset : DecoderCall → Bool
+takesOffset (at-offset c) = true
+takesOffset (substring c) = false
+takesOffset (string c) = false
+takesOffset (covered c) = true
+takesOffset (two-bit c) = true
+takesOffset (three-bit c) = true
+takesOffset (rolling c) = true
+
+-- a call set to a window: by its list's alphabet, from s to e, lent the bytes of the range, or from 0 to its end where byte_offset is fixed at 0, and given
+-- memory for its symbols at least
+pub record SetTo (l : EncoderList) (w : Window l) (h : Handed) (from : ℕ) : Type 0 where
+  pub by-alphabet : h .alphabet ≡ alphabetIn l
+  pub at-byte : h .offset ≡ from
+  pub at-start : h .start ≡ w .s
+  pub at-end : h .end ≡ w .e
+  pub lends : Lent l w from (h .lent)
+  pub room : w .e - w .s ≤ length (h .memory)
+
+abbrev pub Set : (l : EncoderList) → Window l → DecoderCall → Type 0
+Set l w c = SetTo l w (handed c) (cond (takesOffset c) (w .from) 0)
+
+-- what it gives: its count is e - s, the front of its memory holds the symbols s to e - 1, the rest of it is as it was
+pub record Gives (l : EncoderList) (w : Window l) (h : Handed) : Type 0 where
+  pub told : h .result ≡ Read.Bases (w .e - w .s)
+  pub left : h .afterwards ≡ front (symbolsIn l w) (h .memory)
