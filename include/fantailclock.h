@@ -50,6 +50,9 @@ typedef struct { uint64_t refusal; fc_stream next; } fc_stream_started;
 /* status: 1 Hungry (give more source), 2 Done (the budget is used), 3 Full (give more memory); 0 on a refusal. */
 typedef struct { uint64_t refusal, taken, written, status; fc_stream next; } fc_streamed;
 
+/* outstanding: the bases still to come where the refusal is 7, else 0. */
+typedef struct { uint64_t refusal, outstanding; } fc_ended;
+
 /* The version of this header's structs: 1. */
 uint64_t fc_abi_version(void);
 
@@ -118,6 +121,9 @@ fc_stream_started fc_stream_new(uint64_t alphabet, uint64_t skip, uint64_t budge
 
 /* Takes of `source` just the bytes that it needs, `taken` of them, and writes `written` bases at the front of `out`. Refuses by 8, 1. */
 fc_streamed fc_stream_read(fc_stream state, const uint8_t *source, size_t len, uint8_t *out, size_t room);
+
+/* The end of a stream: accepted once the skip is done and every base of the budget is written. Refuses by 8, 1, 7. */
+fc_ended fc_stream_end(fc_stream state);
 
 #ifdef __cplusplus
 }

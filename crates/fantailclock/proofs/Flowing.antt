@@ -19,15 +19,18 @@ use Rattle.streaming.specs.declared.decoder.Status.{Status}
 use Rattle.streaming.specs.declared.decoder.StreamingDecoder.{StreamingDecoder}
 use Rattle.streaming.specs.declared.decoder.StreamStarted.{StreamStarted as Start}
 use Rattle.streaming.specs.declared.decoder.Streamed.{Streamed as Answer}
-use Rattle.streaming.specs.Stream.{startStreamAt, streamAt, streamMemory}
-use Rattle.streaming.specs.Answers.{streamStartedReply, statusNumber}
+use Rattle.streaming.specs.declared.decoder.Ended.{Ended as End}
+use Rattle.streaming.specs.Stream.{startStreamAt, streamAt, streamMemory, endAt}
+use Rattle.streaming.specs.Answers.{streamStartedReply, statusNumber, endedReply}
 use Rattle.fantailclock.specs.declared.streams.State.{State}
 use Rattle.fantailclock.specs.declared.shapes.Count.{Count}
+use Rattle.fantailclock.specs.declared.shapes.Packed.{Packed}
+use Rattle.fantailclock.specs.declared.shapes.Ended.{Ended}
 use Rattle.fantailclock.specs.declared.shapes.Stream.{Stream}
 use Rattle.fantailclock.specs.declared.shapes.StreamStarted.{StreamStarted}
 use Rattle.fantailclock.specs.declared.shapes.Streamed.{Streamed}
-use Rattle.fantailclock.specs.Shapes.{count}
-use Rattle.fantailclock.specs.Streams.{inside, outside, stateOf, streamStarted, streamedBy, streamedFrom, streamed, memoryFrom, streamedMemory}
+use Rattle.fantailclock.specs.Shapes.{count, packed, ended}
+use Rattle.fantailclock.specs.Streams.{inside, outside, stateOf, streamStarted, streamedBy, streamedFrom, streamed, memoryFrom, streamedMemory, endFrom, endTold}
 use Rattle.fantailclock.proofs.Told.{is-refused}
 
 -- ---- reads
@@ -107,3 +110,20 @@ module _ (s : Stream) (source memory : List ℕ) where
         ∙ ap (streamedFrom s source (length memory)) q,
     w ∙ ap (memoryFrom source memory) q,
   )
+
+module _ (s : Stream) where
+  pub end-no : (m : ℕ) → State.Refused m ≡ stateOf s → record { refusal = m; outstanding = 0 } ≡ ended (endTold s)
+  unfolding endTold
+  end-no m q = ap (λ (x : State). ended (endFrom x)) q
+
+  pub end-complete : (d : StreamingDecoder) → State.Sound d ≡ stateOf s → (x : End) → x ≡ End.Complete → x ≡ endAt d → record { refusal = 0; outstanding = 0 } ≡ ended (endTold s)
+  unfolding endTold
+  end-complete d q x e f = ap (λ (y : End). ended (endedReply y)) (sym e ∙ f) ∙ ap (λ (y : State). ended (endFrom y)) q
+
+  pub end-refused : (d : StreamingDecoder) → State.Sound d ≡ stateOf s → (x : End) (r : Refusal) (next : StreamingDecoder) → x ≡ End.Refused r next → x ≡ endAt d
+      → (z : Packed) → z ≡ packed (refusalReply r) → record { refusal = z .refusal; outstanding = z .position } ≡ ended (endTold s)
+  unfolding endTold
+  end-refused d q x r next e f z h =
+      ap (λ (y : Packed). record { refusal = y .refusal; outstanding = y .position }) h
+      ∙ ap (λ (y : End). ended (endedReply y)) (sym e ∙ f)
+      ∙ ap (λ (y : State). ended (endFrom y)) q

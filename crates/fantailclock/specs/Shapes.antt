@@ -8,6 +8,7 @@ use Rattle.fantailclock.specs.declared.shapes.Number.{Number}
 use Rattle.fantailclock.specs.declared.shapes.Count.{Count}
 use Rattle.fantailclock.specs.declared.shapes.Range.{Range}
 use Rattle.fantailclock.specs.declared.shapes.Packed.{Packed}
+use Rattle.fantailclock.specs.declared.shapes.Ended.{Ended}
 use Rattle.fantailclock.specs.declared.shapes.Guesser.{Guesser}
 use Rattle.fantailclock.specs.declared.shapes.Guessing.{Guessing}
 
@@ -26,6 +27,10 @@ range reply = record { refusal = numberIn reply; start = valueIn 0 reply; end = 
 -- bytes written, or position and byte of a non-member
 abbrev pub packed : Reply → Packed
 packed reply = record { refusal = numberIn reply; count = valueIn 0 reply; position = detailIn 0 reply; byte = detailIn 1 reply }
+
+-- the bases outstanding
+abbrev pub ended : Reply → Ended
+ended reply = record { refusal = numberIn reply; outstanding = detailIn 0 reply }
 
 -- a guesser as a host's number
 abbrev pub hosted : AlphabetGuesser → Guesser

@@ -1,16 +1,16 @@
 -- The stream for hosts: its state as numbers, and what its calls tell.
 use Prim.Native.Nat.{ℕ}
 use mathlib.Core.Bool.{_&&_}
-use mathlib.Core.List.{List}
+use mathlib.Core.List.{List, []}
 use lib.Dec.{leb}
 use lib.ListN.{length}
-use Rattle.alphabet.specs.Questions.{ask_else_then_, refusalReply, numberIn}
+use Rattle.alphabet.specs.Questions.{ask_else_then_, Reply, refused, refusalReply, numberIn}
 use Rattle.alphabet.specs.Names.{numberOf, known, kindOf}
 use Rattle.streaming.specs.declared.decoder.StreamingDecoder.{StreamingDecoder}
 use Rattle.streaming.specs.declared.decoder.Streamed.{Streamed as Answer}
 use Rattle.streaming.specs.declared.decoder.Streamed.the-variants as answer
-use Rattle.streaming.specs.Stream.{startStreamAt, streamAt, streamMemory}
-use Rattle.streaming.specs.Answers.{streamStartedReply, statusNumber}
+use Rattle.streaming.specs.Stream.{startStreamAt, streamAt, streamMemory, endAt}
+use Rattle.streaming.specs.Answers.{streamStartedReply, statusNumber, endedReply}
 use Rattle.fantailclock.specs.declared.streams.State.{State}
 use Rattle.fantailclock.specs.declared.shapes.Stream.{Stream}
 use Rattle.fantailclock.specs.declared.shapes.StreamStarted.{StreamStarted}
@@ -56,3 +56,11 @@ memoryFrom source memory (State.Sound d) = streamMemory d source memory
 
 unfoldable pub streamedMemory : Stream → List ℕ → List ℕ → List ℕ
 streamedMemory s source memory = memoryFrom source memory (stateOf s)
+
+-- `fc_stream_end`
+abbrev pub endFrom : State → Reply
+endFrom (State.Refused number) = refused number []
+endFrom (State.Sound d) = endedReply (endAt d)
+
+unfoldable pub endTold : Stream → Reply
+endTold s = endFrom (stateOf s)

@@ -39,7 +39,7 @@ fn bare(number: u64) -> Packed
 }
 
 // A refusal as numbers, with its values.
-fn told(refusal: Refusal) -> Packed
+pub fn told(refusal: Refusal) -> Packed
     ensures { λ r. ⌜ r ≡ packed (refusalReply refusal) ⌝ }
 {
     match refusal {

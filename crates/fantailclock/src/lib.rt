@@ -26,5 +26,6 @@ pub use reads::fc_decode_rolling;
 pub use reads::fc_decode_string_from_bytes;
 pub use reads::fc_decode_substring_from_bytes;
 pub use reads::fc_decode_substring_from_bytes_at_offset;
+pub use streams::fc_stream_end;
 pub use streams::fc_stream_new;
 pub use streams::fc_stream_read;

@@ -88,3 +88,10 @@ pub struct Streamed {
     pub status: u64,
     pub next: Stream,
 }
+
+// `outstanding` is 0 unless the refusal is 7.
+#[repr(C)]
+pub struct Ended {
+    pub refusal: u64,
+    pub outstanding: u64,
+}

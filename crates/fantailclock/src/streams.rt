@@ -1,4 +1,6 @@
 // The stream.
+use crate::encoders::told;
+use crate::shapes::Ended;
 use crate::shapes::Stream;
 use crate::shapes::StreamStarted;
 use crate::shapes::Streamed;
@@ -9,7 +11,8 @@ use streaming::StreamingDecoder;
 ghost use mathlib.Core.Path.{_≡_};
 ghost use lib.ListN.{length};
 ghost use Rattle.streaming.specs.Answers.{statusNumber};
-ghost use Rattle.fantailclock.specs.Streams.{outside, stateOf, streamStarted, streamed, streamedMemory};
+ghost use Rattle.fantailclock.specs.Shapes.{ended};
+ghost use Rattle.fantailclock.specs.Streams.{outside, stateOf, streamStarted, streamed, streamedMemory, endTold};
 
 // What a state's numbers stand for, or the number by which they are refused.
 pub enum State {
@@ -122,6 +125,33 @@ pub extern "C" fn fc_stream_read(state: Stream, source: &[u8], out: &mut [u8]) -
                 status: 0,
                 next: state,
             },
+        },
+    }
+}
+
+// Whether the stream is complete; with bases outstanding it is refused by 7, with their count.
+#[no_mangle]
+pub extern "C" fn fc_stream_end(state: Stream) -> Ended
+    ensures { λ r. ⌜ r ≡ ended (endTold state) ⌝ }
+{
+    let stands = state_of(state);
+    match stands {
+        State::Refused(number) => Ended {
+            refusal: number,
+            outstanding: 0,
+        },
+        State::Sound(stream) => match stream.end() {
+            streaming::Ended::Complete => Ended {
+                refusal: 0,
+                outstanding: 0,
+            },
+            streaming::Ended::Refused(refusal, _) => {
+                let answer = told(refusal);
+                Ended {
+                    refusal: answer.refusal,
+                    outstanding: answer.position,
+                }
+            }
         },
     }
 }

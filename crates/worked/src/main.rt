@@ -2,6 +2,7 @@
 use alphabet::Refusal;
 use coder::Encoded;
 use coder::EncoderStarted;
+use coder::Ended;
 use coder::Finalized;
 use coder::Read;
 use coder::SequenceEncoder;
@@ -16,10 +17,6 @@ fn print(text: &[u8]) {
     io::write_all(STDOUT_FILENO, text);
 }
 
-fn print_byte(byte: u8) {
-    io::print_hex(STDOUT_FILENO, byte as u64, 2);
-}
-
 // The bytes in hexadecimal, and a line's end.
 fn print_bytes(bytes: &[u8]) {
     for i in 0..bytes.len() {
@@ -28,9 +25,31 @@ fn print_bytes(bytes: &[u8]) {
     print(b"\n");
 }
 
+fn print_byte(byte: u8) {
+    io::print_hex(STDOUT_FILENO, byte as u64, 2);
+}
+
+fn print_number(number: u64) {
+    io::print_decimal(STDOUT_FILENO, number);
+}
+
+// A refusal's number, then its values.
 fn print_refusal(refusal: Refusal) {
     print(b"refused ");
-    io::print_decimal(STDOUT_FILENO, refusal.number() as u64);
+    match refusal {
+        Refusal::NonMember { position, byte } => {
+            print(b"5, position ");
+            print_number(position as u64);
+            print(b", byte ");
+            print_byte(byte);
+        }
+        Refusal::Outstanding(bases) => {
+            print(b"7, ");
+            print_number(bases);
+            print(b" outstanding");
+        }
+        other => print_number(other.number() as u64),
+    }
     print(b"\n");
 }
 
@@ -106,6 +125,14 @@ fn print_status(status: Status) {
     }
 }
 
+fn print_end(ended: Ended) {
+    print(b"end call: ");
+    match ended {
+        Ended::Complete => print(b"complete\n"),
+        Ended::Refused(refusal, _) => print_refusal(refusal),
+    }
+}
+
 fn stream() {
     let StreamStarted::Fresh(stream) = StreamingDecoder::new(1, 3, 0) else {
         return;
@@ -116,13 +143,14 @@ fn stream() {
         taken: _,
         written: _,
         status,
-        next: _,
+        next,
     } = stream.read(&source, &mut out)
     else {
         return;
     };
     print(b"stream, skip 3, budget 0, no source: ");
     print_status(status);
+    print_end(next.end());
 }
 
 fn main() {
