@@ -26,6 +26,10 @@ use Rattle.streaming.specs.Count.{nextBy}
 abbrev pub blank : List ℕ
 blank = replicate 9 0xaa
 
+-- four bytes for a stream, none of them zero
+abbrev pub cells : List ℕ
+cells = replicate 4 0xaa
+
 -- a row: what is asked, and its answer
 pub data Row : Type 0 where
   -- a text packed whole, into blank memory: the bytes written, or the position and the byte of the first non-member
@@ -47,18 +51,18 @@ pub data Row : Type 0 where
 -- what a row says
 abbrev pub Holds : Row → Type 0
 Holds (packs kind text bytes) =
-    (encodeAt (numberOf kind) (bytesOf text) 9 ≡ Encoded.Wrote (length bytes)) × (encodeMemory (numberOf kind) (bytesOf text) blank ≡ front bytes blank)
+    (encodeAt (numberOf kind) (bytesOf text) (length blank) ≡ Encoded.Wrote (length bytes)) × (encodeMemory (numberOf kind) (bytesOf text) blank ≡ front bytes blank)
 Holds (refuses kind text position byte) =
-    (encodeAt (numberOf kind) (bytesOf text) 9 ≡ Encoded.Refused (by 5 (position ∷ byte ∷ []))) × (encodeMemory (numberOf kind) (bytesOf text) blank ≡ blank)
+    (encodeAt (numberOf kind) (bytesOf text) (length blank) ≡ Encoded.Refused (by 5 (position ∷ byte ∷ []))) × (encodeMemory (numberOf kind) (bytesOf text) blank ≡ blank)
 Holds (range start end bits from to) = rangeAt start end bits ≡ Range.Bytes from to
 Holds (reads kind lent start end text) =
-    (readAt (numberOf kind) 0 start end 9 ≡ Read.Bases (length (bytesOf text))) × (readMemory (numberOf kind) lent 0 start end blank ≡ front (bytesOf text) blank)
+    (readAt (numberOf kind) 0 start end (length blank) ≡ Read.Bases (length (bytesOf text))) × (readMemory (numberOf kind) lent 0 start end blank ≡ front (bytesOf text) blank)
 Holds (uncovered kind lent start end) =
-    (coveredAt (numberOf kind) lent 0 start end 9 ≡ Read.Refused (by 3 [])) × (coveredMemory (numberOf kind) lent 0 start end blank ≡ blank)
+    (coveredAt (numberOf kind) lent 0 start end (length blank) ≡ Read.Refused (by 3 [])) × (coveredMemory (numberOf kind) lent 0 start end blank ≡ blank)
 Holds (starves kind skip budget source taken written status outstanding) =
-    (streamedReply (streamAt (freshStream kind skip budget) source 4) ≡ accepted (taken ∷ written ∷ status ∷ []))
-    × ((streamMemory (freshStream kind skip budget) source (replicate 4 0xaa) ≡ replicate 4 0xaa)
-    × (endedReply (endAt (nextBy (streamAt (freshStream kind skip budget) source 4))) ≡ refused 7 (outstanding ∷ [])))
+    (streamedReply (streamAt (freshStream kind skip budget) source (length cells)) ≡ accepted (taken ∷ written ∷ status ∷ []))
+    × ((streamMemory (freshStream kind skip budget) source cells ≡ cells)
+    × (endedReply (endAt (nextBy (streamAt (freshStream kind skip budget) source (length cells)))) ≡ refused 7 (outstanding ∷ [])))
 Holds (guess text kind) = guessOf (bytesOf text) ≡ kind
 Holds (codes kind text entries) = map (coding kind .code) (bytesOf text) ≡ entries
 
