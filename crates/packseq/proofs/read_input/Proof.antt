@@ -2,8 +2,8 @@ use mathlib.Core.Path.{_≡_}
 use Prim.Native.Nat.{_≤_, _-_}
 use borrow.Author.Needs.{needs}
 use lib.ListN.{length}
-use Rattle.guessseq.proofs.read_input.Statement.{statement}
-use Rattle.guessseq.proofs.read_input.Tie as tie
+use Rattle.packseq.proofs.read_input.Statement.{statement}
+use Rattle.packseq.proofs.read_input.Tie as tie
 
 abbrev Inv-loop : tie.InvT-loop
 Inv-loop buf₀ len₀ buf len = (len ≤ length buf) × (length buf ≡ length buf₀)

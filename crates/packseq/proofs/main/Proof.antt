@@ -1,9 +1,8 @@
 use mathlib.Core.Path.{sym}
-use borrow.Author.Needs.{needs}
 use lib.Seq.{length-take-le}
-use Rattle.alphabet.proofs.Calls.{name-within}
-use Rattle.guessseq.proofs.main.Statement.{statement}
-use Rattle.guessseq.proofs.main.Tie as tie
+use borrow.Author.Needs.{needs}
+use Rattle.packseq.proofs.main.Statement.{statement}
+use Rattle.packseq.proofs.main.Tie as tie
 
 slice-aggregate-read-input : tie.Need-slice-aggregate-read-input
 slice-aggregate-read-input c = search needs
@@ -32,27 +31,13 @@ returns-2 c = search needs
 array-share-prefix-text : tie.Need-array-share-prefix-text
 array-share-prefix-text c = search needs
 
-slice-aggregate-guess-alphabet : tie.Need-slice-aggregate-guess-alphabet
-slice-aggregate-guess-alphabet c =
+slice-aggregate-print-packed : tie.Need-slice-aggregate-print-packed
+slice-aggregate-print-packed c =
     let r = c .before .before .before .before .before .read-input in
     sym (length-take-le (r .result .len) (r .last .0) (r .ensures))
 
-guess-alphabet-requires : tie.Need-guess-alphabet-requires
-guess-alphabet-requires c κs = search needs
-
-display-name-requires : tie.Need-display-name-requires
-display-name-requires c κs = search needs
-
-array-share-prefix-bytes : tie.Need-array-share-prefix-bytes
-array-share-prefix-bytes c = name-within (c .before .display-name .result) _ (c .before .display-name .ensures)
-
-slice-aggregate-print-3 : tie.Need-slice-aggregate-print-3
-slice-aggregate-print-3 c =
-    let d = c .before .before .display-name in
-    sym (length-take-le (d .result .len) (d .result .bytes) (name-within (d .result) _ (d .ensures)))
-
-print-requires-3 : tie.Need-print-requires-3
-print-requires-3 c κs = search needs
+print-packed-requires : tie.Need-print-packed-requires
+print-packed-requires c κs = search needs
 
 returns-3 : tie.Need-returns-3
 returns-3 c = search needs
@@ -70,10 +55,6 @@ main-spec =
     print-requires-2
     returns-2
     array-share-prefix-text
-    slice-aggregate-guess-alphabet
-    guess-alphabet-requires
-    display-name-requires
-    array-share-prefix-bytes
-    slice-aggregate-print-3
-    print-requires-3
+    slice-aggregate-print-packed
+    print-packed-requires
     returns-3)
