@@ -22,10 +22,8 @@ use Rattle.record.specs.Texts.{Packed}
 use Rattle.record.specs.Made.{EncodeCall}
 use Rattle.record.specs.EncoderLists.{CodeCall, updates, finalizes, Ends, Follows, callsOf, outcomesOf, EncoderList, alphabetIn, Finished, textIn, bytesIn}
 use Rattle.record.specs.Record.{alphabetFor, textFor, before, afterwards}
-use Rattle.record.proofs.Tallies.{fresh-tally}
 use Rattle.record.proofs.Whole.{fresh-packs}
 use Rattle.record.proofs.AtOnce.{encode-packed, encode-accepted}
-use Rattle.record.proofs.Alike.{alike}
 
 -- ---- calls that follow each other run as the definitions do
 

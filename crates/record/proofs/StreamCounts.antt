@@ -27,14 +27,14 @@ use Rattle.streaming.specs.declared.decoder.Streamed.{Streamed}
 use Rattle.streaming.specs.declared.decoder.Ended.{Ended}
 use Rattle.streaming.specs.Answers.{endedReply}
 use Rattle.streaming.specs.Stream.{freshStream, startStreamAt, statusOf, endAt}
-use Rattle.streaming.specs.Count.{Place, begin, takenBy, complete, sourceOf, offered, reached, placeAfter, basesBetween, tookBy, standsFor}
+use Rattle.streaming.specs.Count.{Place, begin, takenBy, complete, sourceOf, offered, reached, placeAfter, basesBetween, standsFor}
 use Rattle.streaming.proofs.Feeding.{Reachable}
 use Rattle.streaming.proofs.AllCalls.{MostInAll, reached-most}
-use Rattle.streaming.proofs.Ending.{ended, end-is, end-window}
-use Rattle.record.specs.StreamLists.{sourceFor, memoryFor, Streaming, StreamList, lastState, alphabetOf, skipOf, budgetOf}
-use Rattle.record.specs.Made.{ReadCall, EndCall}
+use Rattle.streaming.proofs.Ending.{end-is, end-window}
+use Rattle.record.specs.StreamLists.{sourceFor, memoryFor, Streaming, StreamList, alphabetOf, skipOf, budgetOf}
+use Rattle.record.specs.Made.{ReadCall}
 use Rattle.record.specs.EncoderLists.{EncoderList, alphabetIn, textIn}
-use Rattle.record.specs.Decoders.{codingIn, Window, symbolsIn}
+use Rattle.record.specs.Decoders.{codingIn, Window}
 use Rattle.record.specs.Record.{codingOf, placeIn, basesIn, takenIn, Counted, GoesOn, wroteBy, Largest, Streams, StreamGives}
 use Rattle.record.proofs.Reading.{named-range, lent-serves}
 use Rattle.record.proofs.Streamed.{Comes, comes-fresh, no-bases, none-taken, length-bases, call, source-is, answers, next-taken}

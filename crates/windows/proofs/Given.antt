@@ -1,5 +1,5 @@
 -- Reads of a packed text: for a window within the text every question is answered yes, and the symbols stand at the front of memory afterwards.
-use mathlib.Core.Path.{_≡_, ap, _∙_}
+use mathlib.Core.Path.{_≡_, ap}
 use mathlib.Core.Bool.{true, _&&_}
 use mathlib.Core.List.{List, map}
 use Prim.Native.Nat.{ℕ, _+_, _-_, _*_, _≤_, _<_}
