@@ -19,7 +19,7 @@ use Rattle.record.specs.EncoderLists.{CodeCall, updates, finalizes, Ends
 
 -- ---- a call for any state, piece and memory; of lifetimes and places in memory the contracts say nothing
 
-abbrev at-some : List ℕ → RefT (List ℕ)
+abbrev pub at-some : List ℕ → RefT (List ℕ)
 at-some l = record { ptr = (0, 0); name = 0; now = l }
 
 abbrev made-update : SequenceEncoder → List ℕ → List ℕ → UpdateCall

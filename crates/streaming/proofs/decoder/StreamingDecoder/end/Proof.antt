@@ -1,5 +1,6 @@
 use mathlib.Core.Path.{_≡_, sym, _∙_}
 use mathlib.Core.Bool.{true}
+use native.Mathlib.Omega.{arith}
 use borrow.Author.Needs.{needs}
 use borrow.Author.Tests.{not-true, not-false}
 use Rattle.streaming.specs.Stream.{soundStream}
@@ -26,13 +27,13 @@ returns-3 : tie.Need-returns-3
 returns-3 c =
     let second = c .before .before in
     let first = second .before .before in
-    end-short (first .before .before .args .self) (sound first) (second .if2 .left) (c .if3 .taken)
+    end-short (first .before .before .args .self) (sound first) (second .if2 .left) (omega (arith, c .if3 .taken))
 
 returns-4 : tie.Need-returns-4
 returns-4 c =
     let second = c .before .before in
     let first = second .before .before in
-    end-complete (first .before .before .args .self) (sound first) (second .if2 .left) (c .if3 .left)
+    end-complete (first .before .before .args .self) (sound first) (second .if2 .left) (omega (arith, c .if3 .left))
 
 pub end-spec : {M : Type 1} → statement M
 end-spec = tie.close (tie.spec is-sound-requires returns returns-2 returns-3 returns-4)
