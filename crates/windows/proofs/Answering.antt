@@ -170,38 +170,84 @@ module _ (alphabet offset start end room : ℕ) where
           unfolding readAt
           read-bases h = rw (lt-ltb start end some, le-leb alphabet 5 named, le-leb end (2 ^ 60) near, le-leb offset (2 ^ 60) by-near, le-leb (end - start) room h)
 
--- ---- each answer of a covered read
+-- ---- each answer of a covered read, by that of a zero-filling one with memory enough
 
-module _ (alphabet : ℕ) (lent : List ℕ) (offset start end room : ℕ) where
-  pub covered-empty : end ≤ start → Read.Bases 0 ≡ coveredAt alphabet lent offset start end room
+module _ (alphabet : ℕ) (lent : List ℕ) (offset start end room : ℕ) (r : Read) (e : r ≡ readAt alphabet offset start end end) where
+  -- what is asked of both, with what follows on "yes"
+  abbrev asking : Read → Read
+  asking rest =
+      ask ltb start end else Read.Bases 0 then
+      ask known alphabet else Read.Refused (by 8 []) then
+      ask inBounds end && inBounds offset else Read.Refused (by 2 []) then
+      rest
+
+  -- what a covered read asks besides
+  abbrev besides : Read
+  besides =
+      ask covers (numbered alphabet) lent offset start end else Read.Refused (by 3 []) then
+      ask leb (end - start) room else Read.Refused (by 4 []) then
+      Read.Bases (end - start)
+
+  plain : r ≡ asking (Read.Bases (end - start))
+  unfolding readAt
+  plain = e ∙ rw (le-leb (end - start) end (omega arith))
+
+  -- a refusal is no answer with bases, so that it stays whatever else is asked
+  pub covered-refused : (q : Refusal) → r ≡ Read.Refused q → r ≡ coveredAt alphabet lent offset start end room
   unfolding coveredAt
-  covered-empty h = rw (le-ltb start end h)
+  covered-refused q told = told ∙ go (ltb start end) (known alphabet) (inBounds end && inBounds offset) (sym told ∙ plain)
+    where
+      go : (t u v : Bool) → Read.Refused q ≡ (ask t else Read.Bases 0 then ask u else Read.Refused (by 8 []) then ask v else Read.Refused (by 2 []) then Read.Bases (end - start)) → Read.Refused q ≡ (ask t else Read.Bases 0 then ask u else Read.Refused (by 8 []) then ask v else Read.Refused (by 2 []) then besides)
+      go true true true p = let z : _≡_ {A = ℕ} 0 1 = cc in absurd (omega arith)
+      go true true false p = p
+      go true false v p = p
+      go false u v p = p
 
-  module _ (some : start < end) where
-    pub covered-unknown : 5 < alphabet → Read.Refused (by 8 []) ≡ coveredAt alphabet lent offset start end room
+  -- an empty window stays so
+  pub covered-empty : (n : ℕ) → r ≡ Read.Bases n → n ≡ 0 → Read.Bases n ≡ coveredAt alphabet lent offset start end room
+  unfolding coveredAt
+  covered-empty n told z = go (ltb start end) (known alphabet) (inBounds end && inBounds offset) (ltb-true start end) (sym told ∙ plain)
+    where
+      go : (t u v : Bool) → (t ≡ true → start < end) → Read.Bases n ≡ (ask t else Read.Bases 0 then ask u else Read.Refused (by 8 []) then ask v else Read.Refused (by 2 []) then Read.Bases (end - start)) → Read.Bases n ≡ (ask t else Read.Bases 0 then ask u else Read.Refused (by 8 []) then ask v else Read.Refused (by 2 []) then besides)
+      go true true true some p = absurd (omega (arith, some refl, ap counted p))
+      go true true false some p = let x : _≡_ {A = ℕ} 0 1 = cc in absurd (omega arith)
+      go true false v some p = let x : _≡_ {A = ℕ} 0 1 = cc in absurd (omega arith)
+      go false u v some p = p
+
+-- a window that is not empty, of n bases, whose alphabet has a number and whose positions are in bounds
+pub record Placed (alphabet offset start end n : ℕ) : Type 0 where
+  pub some : ltb start end ≡ true
+  pub named : known alphabet ≡ true
+  pub near : inBounds end && inBounds offset ≡ true
+  pub count : end - start ≡ n
+
+pub placed : (alphabet offset start end : ℕ) (r : Read) (n : ℕ) → r ≡ readAt alphabet offset start end end → r ≡ Read.Bases n → (n ≡ 0 → ⊥) → Placed alphabet offset start end n
+unfolding readAt
+placed alphabet offset start end r n e told z =
+    let h : 0 < n = omega arith in
+    let p₁ = passed (ltb start end) _ _ n refl h (sym (ap counted e) ∙ ap counted told) in
+    let p₂ = passed (known alphabet) _ _ n refl h (p₁ .1) in
+    let p₃ = passed (inBounds end && inBounds offset) _ _ n refl h (p₂ .1) in
+    let p₄ = passed (leb (end - start) end) _ _ n refl h (p₃ .1) in
+    record { some = p₁ .0; named = p₂ .0; near = p₃ .0; count = p₄ .1 }
+
+module _ {alphabet offset start end n : ℕ} (w : Placed alphabet offset start end n) where
+  pub placed-some : start < end
+  placed-some = ltb-true start end (w .some)
+
+  pub placed-near : end ≤ 2 ^ 60
+  placed-near = leb-true end (2 ^ 60) (both (inBounds end) (inBounds offset) (w .near) .0)
+
+  module _ (lent : List ℕ) (room : ℕ) where
+    pub covered-not : covers (numbered alphabet) lent offset start end ≡ false → Read.Refused (by 3 []) ≡ coveredAt alphabet lent offset start end room
     unfolding coveredAt
-    covered-unknown h = rw (lt-ltb start end some, lt-leb alphabet 5 h)
+    covered-not h = rw (w .some, w .named, w .near, h)
 
-    module _ (named : alphabet ≤ 5) where
-      pub covered-far-end : 2 ^ 60 < end → Read.Refused (by 2 []) ≡ coveredAt alphabet lent offset start end room
+    module _ (all : covers (numbered alphabet) lent offset start end ≡ true) where
+      pub covered-short : room < n → Read.Refused (by 4 []) ≡ coveredAt alphabet lent offset start end room
       unfolding coveredAt
-      covered-far-end h = rw (lt-ltb start end some, le-leb alphabet 5 named, lt-leb end (2 ^ 60) h)
+      covered-short h = rw (w .some, w .named, w .near, all, lt-leb (end - start) room (omega (arith, w .count)))
 
-      module _ (near : end ≤ 2 ^ 60) where
-        pub covered-far-offset : 2 ^ 60 < offset → Read.Refused (by 2 []) ≡ coveredAt alphabet lent offset start end room
-        unfolding coveredAt
-        covered-far-offset h = rw (lt-ltb start end some, le-leb alphabet 5 named, le-leb end (2 ^ 60) near, lt-leb offset (2 ^ 60) h)
-
-        module _ (by-near : offset ≤ 2 ^ 60) where
-          pub covered-not : covers (numbered alphabet) lent offset start end ≡ false → Read.Refused (by 3 []) ≡ coveredAt alphabet lent offset start end room
-          unfolding coveredAt
-          covered-not h = rw (lt-ltb start end some, le-leb alphabet 5 named, le-leb end (2 ^ 60) near, le-leb offset (2 ^ 60) by-near, h)
-
-          module _ (all : covers (numbered alphabet) lent offset start end ≡ true) where
-            pub covered-short : room < end - start → Read.Refused (by 4 []) ≡ coveredAt alphabet lent offset start end room
-            unfolding coveredAt
-            covered-short h = rw (lt-ltb start end some, le-leb alphabet 5 named, le-leb end (2 ^ 60) near, le-leb offset (2 ^ 60) by-near, all, lt-leb (end - start) room h)
-
-            pub covered-bases : end - start ≤ room → Read.Bases (end - start) ≡ coveredAt alphabet lent offset start end room
-            unfolding coveredAt
-            covered-bases h = rw (lt-ltb start end some, le-leb alphabet 5 named, le-leb end (2 ^ 60) near, le-leb offset (2 ^ 60) by-near, all, le-leb (end - start) room h)
+      pub covered-bases : n ≤ room → Read.Bases n ≡ coveredAt alphabet lent offset start end room
+      unfolding coveredAt
+      covered-bases h = ap Read.Bases (sym (w .count)) ∙ rw (w .some, w .named, w .near, all, le-leb (end - start) room (omega (arith, w .count)))

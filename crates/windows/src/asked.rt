@@ -46,7 +46,7 @@ pub fn asked(alphabet: u64, offset: usize, start: usize, end: usize, room: usize
     Read::Bases(end - start)
 }
 
-// The answer of a covered read: the same, with question 6 before the memory.
+// The answer of a covered read: what a zero-filling one asks, memory aside, and question 6 before the memory. Memory of `end` bytes is never too short.
 pub fn asked_covered(
     alphabet: u64,
     bytes: &[u8],
@@ -57,17 +57,12 @@ pub fn asked_covered(
 ) -> Read
     ensures { λ r. ⌜ r ≡ coveredAt alphabet (now (bytes .entry)) offset start end room ⌝ }
 {
-    if end <= start {
-        return Read::Bases(0);
-    }
-    if LAST_ALPHABET < alphabet {
-        return Read::Refused(Refusal::NoAlphabet);
-    }
-    if LIMIT < end {
-        return Read::Refused(Refusal::TooFar);
-    }
-    if LIMIT < offset {
-        return Read::Refused(Refusal::TooFar);
+    let plain = asked(alphabet, offset, start, end, end);
+    let Read::Bases(count) = plain else {
+        return plain;
+    };
+    if count == 0 {
+        return plain;
     }
     let b = kind_of(alphabet).bits_per_symbol();
     if start * b / 8 < offset {
@@ -76,8 +71,8 @@ pub fn asked_covered(
     if bytes.len() < (end * b + 7) / 8 - offset {
         return Read::Refused(Refusal::Uncovered);
     }
-    if room < end - start {
+    if room < count {
         return Read::Refused(Refusal::ShortMemory);
     }
-    Read::Bases(end - start)
+    plain
 }
