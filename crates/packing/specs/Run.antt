@@ -2,7 +2,9 @@
 -- contract between them and the loop, which knows a table and no alphabet.
 use Prim.Native.Nat.{ℕ, _+_, _-_, _*_, _/_, _%_, _^_, _≤_, _<_}
 use mathlib.Core.Path.{_≡_}
+use mathlib.Core.Bool.{Bool, true, _||_}
 use mathlib.Core.List.{List, map, _++_}
+use lib.Dec.{eqb}
 use lib.ListN.{length, take, drop}
 use Rattle.bits.specs.Tables.{at, tabulate}
 use Rattle.bits.specs.Streams.{word, cut}
@@ -37,17 +39,28 @@ byteAbove x p b t = x / 2 ^ (p + 8 * (b - 1 - t)) % 256
 abbrev pub spilled : ℕ → ℕ → ℕ → ℕ → ℕ → List ℕ → List ℕ
 spilled x p b w n memory = (take w memory ++ tabulate n (byteAbove x p b)) ++ drop (w + n) memory
 
--- r is the index of the first byte of a text whose entry in a table is FF, and the text's length where there is none
-pub record Searched (table text : List ℕ) (r : ℕ) : Type 0 where
-  pub within : r ≤ length text
-  pub passed : (j : ℕ) → j < r → at table (at text j) ≡ 0xff → ⊥
-  pub stopped : r < length text → at table (at text r) ≡ 0xff
-
 -- no byte of a text before place i has the entry FF
-pub record Passed (table text : List ℕ) (i : ℕ) : Type 0 where
-  pub within : i ≤ length text
-  pub passed : (j : ℕ) → j < i → at table (at text j) ≡ 0xff → ⊥
+abbrev pub Passed : List ℕ → List ℕ → ℕ → Type 0
+Passed table text i = (j : ℕ) → j < i → at table (at text j) ≡ 0xff → ⊥
+
+-- r is the place of the first byte of a text's first n whose entry in a table is FF, and n where there is none
+pub record Searched (table text : List ℕ) (n r : ℕ) : Type 0 where
+  pub within : r ≤ n
+  pub passed : Passed table text r
+  pub stopped : r < n → at table (at text r) ≡ 0xff
 
 -- r is FF if one of the n entries from place i on is FF
 pub record Overlaid (table text : List ℕ) (i n r : ℕ) : Type 0 where
   pub told : (j : ℕ) → j < n → at table (at text (i + j)) ≡ 0xff → r ≡ 0xff
+
+-- the bytes A, C, G and T
+abbrev pub base : ℕ → Bool
+base x = ((eqb x 65 || eqb x 67) || eqb x 71) || eqb x 84
+
+-- the n bytes from place i on are bases
+pub record Bases (text : List ℕ) (i n : ℕ) : Type 0 where
+  pub each : (j : ℕ) → j < n → base (at text (i + j)) ≡ true
+
+-- no base has the entry FF
+pub record Usual (table : List ℕ) : Type 0 where
+  pub entry : (x : ℕ) → base x ≡ true → at table x ≡ 0xff → ⊥

@@ -4,18 +4,75 @@ use alphabet::AlphabetType;
 use alphabet::INVALID_CODE;
 use bits::place;
 ghost use mathlib.Core.Path.{_≡_};
-ghost use Prim.Native.Nat.{_+_, _≤_};
+ghost use mathlib.Core.Bool.{true};
+ghost use Prim.Native.Nat.{_+_, _-_, _≤_};
 ghost use lib.ListN.{length};
 ghost use Rattle.bits.specs.Tables.{tabulate};
 ghost use Rattle.alphabet.specs.Symbols.{coding};
 ghost use Rattle.alphabet.specs.Questions.{limit};
 ghost use Rattle.packing.specs.Encode.{firstFrom, orFirst};
-ghost use Rattle.packing.specs.Run.{Passed, Overlaid, Searched};
+ghost use Rattle.packing.specs.Run.{Passed, Overlaid, Searched, base, Bases, Usual};
 
 // A non-member's position and byte, where there is one.
 pub enum First {
     Nothing,
     At { position: usize, byte: u8 },
+}
+
+// The search goes by chunks, so that a run of other symbols slows no more than the chunks that it stands in.
+const CHUNK: usize = 4096;
+
+// Whether a byte is one of the four bases, of which most genomes are nearly all made.
+fn is_base(x: u8) -> bool
+    ensures { λ r. ⌜ r ≡ base x ⌝ }
+{
+    (x == b'A') | (x == b'C') | (x == b'G') | (x == b'T')
+}
+
+// Whether 64 bytes, from byte i on, are bases. It leaves no byte out and stops at none, so that the compiler may test many at once.
+fn are_bases(text: &[u8], i: usize) -> bool
+    requires { ⌜ i + 64 ≤ length (now text) ⌝ }
+    ensures { λ r. ⌜ (r ≡ true → Bases (now (text .entry)) i 64) ⌝ }
+{
+    let mut all = true;
+    for j in 0..64 {
+        all = all & is_base(text[i + j]);
+    }
+    all
+}
+
+// Passes bases from `start` on, 64 at a time, and stops no later than `end`.
+fn pass_bases(text: &[u8], start: usize, end: usize) -> usize
+    requires { ⌜ (start ≤ end) × (end ≤ length (now text)) ⌝ }
+    ensures { λ r. ⌜ (start ≤ r) × ((r ≤ end) × Bases (now (text .entry)) start (r - start)) ⌝ }
+{
+    let mut i = start;
+    while 64 <= end - i {
+        if !are_bases(text, i) {
+            return i;
+        }
+        i += 64;
+    }
+    i
+}
+
+// Whether every base is a member.
+fn holds_bases(table: &[u8; 256]) -> bool
+    ensures { λ r. ⌜ (r ≡ true → Usual (now (table .entry))) ⌝ }
+{
+    if table[65] == INVALID_CODE {
+        return false;
+    }
+    if table[67] == INVALID_CODE {
+        return false;
+    }
+    if table[71] == INVALID_CODE {
+        return false;
+    }
+    if table[84] == INVALID_CODE {
+        return false;
+    }
+    true
 }
 
 // The entries of eight bytes, from byte i on, laid over one another: FF if one of them is.
@@ -30,32 +87,62 @@ fn overlay(table: &[u8; 256], text: &[u8], i: usize) -> u8
     m
 }
 
-// The search, a byte at a time, where no byte before `start` has the entry FF.
-fn find_from(table: &[u8; 256], text: &[u8], start: usize) -> usize
-    requires { ⌜ Passed (now table) (now text) start ⌝ }
-    ensures { λ r. ⌜ Searched (now (table .entry)) (now (text .entry)) r ⌝ }
+// The search from `start` to `end`, a byte at a time.
+fn find_from(table: &[u8; 256], text: &[u8], start: usize, end: usize) -> usize
+    requires { ⌜ (start ≤ end) × ((end ≤ length (now text)) × Passed (now table) (now text) start) ⌝ }
+    ensures { λ r. ⌜ Searched (now (table .entry)) (now (text .entry)) end r ⌝ }
 {
-    for i in start..text.len() {
+    for i in start..end {
         if table[place(text[i])] == INVALID_CODE {
             return i;
         }
     }
-    text.len()
+    end
 }
 
-// The index of the first byte whose entry in a table is FF, and the text's length where there is none. Blocks of eight without FF are passed at a test each.
-fn find_invalid(table: &[u8; 256], text: &[u8]) -> usize
-    ensures { λ r. ⌜ Searched (now (table .entry)) (now (text .entry)) r ⌝ }
+// The same, where eight bytes without FF are passed at a test.
+fn find_by_eight(table: &[u8; 256], text: &[u8], start: usize, end: usize) -> usize
+    requires { ⌜ (start ≤ end) × ((end ≤ length (now text)) × Passed (now table) (now text) start) ⌝ }
+    ensures { λ r. ⌜ Searched (now (table .entry)) (now (text .entry)) end r ⌝ }
 {
-    let n = text.len() / 8 * 8;
-    let mut i = 0;
-    while i < n {
+    let mut i = start;
+    while 8 <= end - i {
         if overlay(table, text, i) == INVALID_CODE {
-            return find_from(table, text, i);
+            return find_from(table, text, i, end);
         }
         i += 8;
     }
-    find_from(table, text, i)
+    find_from(table, text, i, end)
+}
+
+// The same, where bases are passed first, if they are members.
+fn find_in_chunk(table: &[u8; 256], usual: bool, text: &[u8], start: usize, end: usize) -> usize
+    requires { ⌜ ((start ≤ end) × ((end ≤ length (now text)) × Passed (now table) (now text) start)) × (usual ≡ true → Usual (now table)) ⌝ }
+    ensures { λ r. ⌜ Searched (now (table .entry)) (now (text .entry)) end r ⌝ }
+{
+    if usual {
+        let i = pass_bases(text, start, end);
+        return find_by_eight(table, text, i, end);
+    }
+    find_by_eight(table, text, start, end)
+}
+
+// The place of the first byte whose entry in a table is FF, and the text's length where there is none.
+fn find_invalid(table: &[u8; 256], text: &[u8]) -> usize
+    ensures { λ r. ⌜ Searched (now (table .entry)) (now (text .entry)) (length (now (text .entry))) r ⌝ }
+{
+    let n = text.len();
+    let usual = holds_bases(table);
+    let mut i = 0;
+    while CHUNK <= n - i {
+        let end = i + CHUNK;
+        let found = find_in_chunk(table, usual, text, i, end);
+        if found < end {
+            return found;
+        }
+        i = end;
+    }
+    find_in_chunk(table, usual, text, i, n)
 }
 
 // The first non-member of a text whose first byte has position `from`, by the alphabet's encoding table. Ascii holds every byte, and FF is a code there.

@@ -1,53 +1,57 @@
-use mathlib.Core.Path.{_≡_, refl}
-use Prim.Native.Nat.{_-_, _*_, _/_, _%_, _≤_}
+use mathlib.Core.Path.{_≡_, refl, subst}
+use mathlib.Core.Bool.{true}
+use Prim.Native.Nat.{ℕ, _-_, _≤_}
 use native.Mathlib.Nat.{not-suc-le-zero}
 use native.Mathlib.Omega.{arith}
 use borrow.Author.Needs.{needs}
 use lib.ListN.{length}
-use Rattle.packing.specs.Run.{Passed}
-use Rattle.packing.proofs.Search.{passed-eight}
+use Rattle.packing.specs.Run.{Passed, Searched, Usual}
 use Rattle.packing.proofs.first.find_invalid.Statement.{statement}
 use Rattle.packing.proofs.first.find_invalid.Tie as tie
 
 abbrev Inv-loop : tie.InvT-loop
-Inv-loop table text n i₀ i = (n ≡ length text / 8 * 8) × (i % 8 ≡ 0) × (i ≤ n) × Passed table text i
+Inv-loop table text n usual i₀ i = (n ≡ length text) × (usual ≡ true → Usual table) × (i ≤ n) × Passed table text i
 
 abbrev μ-loop : tie.MeasureT-loop
-μ-loop table text n i₀ i = n - i
+μ-loop table text n usual i₀ i = n - i
 
-mul-n : tie.Need-mul-n Inv-loop μ-loop
-mul-n c = search needs
+holds-bases-requires : tie.Need-holds-bases-requires Inv-loop μ-loop
+holds-bases-requires c κs = search needs
 
 loop-holds : tie.Need-loop-holds Inv-loop μ-loop
-loop-holds c = (refl, refl, omega arith, record { within = omega arith; passed = λ j h. absurd (not-suc-le-zero h) })
+loop-holds c = (refl, c .holds-bases .ensures, omega arith, λ j h. absurd (not-suc-le-zero h))
 
-overlay-requires : tie.Need-overlay-requires Inv-loop μ-loop
-overlay-requires c κs = search needs
+sub-loop : tie.Need-sub-loop Inv-loop μ-loop
+sub-loop c = search needs
 
-find-from-requires : tie.Need-find-from-requires Inv-loop μ-loop
-find-from-requires c κs = c .before .before .before .loop .inv .3
+add-end : tie.Need-add-end Inv-loop μ-loop
+add-end c = search needs
+
+find-in-chunk-requires : tie.Need-find-in-chunk-requires Inv-loop μ-loop
+find-in-chunk-requires c κs = let o = c .before .loop in ((omega arith, (omega (arith, c .loop-test .taken, o .inv .0, o .inv .2), o .inv .3)), o .inv .1)
 
 returns : tie.Need-returns Inv-loop μ-loop
-returns c = search needs
-
-add-i : tie.Need-add-i Inv-loop μ-loop
-add-i c = search needs
+returns c =
+    let f = c .before .find-in-chunk .ensures in
+    let o = c .before .before .before .loop in
+    record { within = omega (arith, f .within, c .before .before .loop-test .taken, o .inv .0); passed = f .passed; stopped = λ h. f .stopped (c .if1 .taken) }
 
 loop-less : tie.Need-loop-less Inv-loop μ-loop
 loop-less c = search needs
 
 loop-again : tie.Need-loop-again Inv-loop μ-loop
 loop-again c =
-    let h = c .before .before .before in
-    let o = h .loop in
-    let a = h .before .before .args in
-    (refl, omega arith, omega arith, passed-eight (a .table .now) (a .text .now) (o .i) (c .before .overlay .result) (o .inv .3) (omega arith) (c .before .overlay .ensures) (c .if1 .left))
+    let o = c .before .before .before .loop in
+    let f = c .before .find-in-chunk in
+    (o .inv .0, o .inv .1, omega (arith, c .before .before .loop-test .taken, o .inv .2), λ j h. f .ensures .passed j (omega (arith, c .if1 .left)))
 
-find-from-requires-2 : tie.Need-find-from-requires-2 Inv-loop μ-loop
-find-from-requires-2 c κs = c .before .loop .inv .3
+find-in-chunk-requires-2 : tie.Need-find-in-chunk-requires-2 Inv-loop μ-loop
+find-in-chunk-requires-2 c κs = let o = c .before .loop in ((o .inv .2, (omega (arith, o .inv .0), o .inv .3)), o .inv .1)
 
 returns-2 : tie.Need-returns-2 Inv-loop μ-loop
-returns-2 c = search needs
+returns-2 c =
+    let a = c .before .before .before .before .before .args in
+    subst (λ (m : ℕ). Searched (a .table .now) (a .text .now) m (c .find-in-chunk2 .result)) (c .before .before .loop .inv .0) (c .find-in-chunk2 .ensures)
 
 pub find-invalid-spec : {M : Type 1} → statement M
 find-invalid-spec =
@@ -55,13 +59,13 @@ find-invalid-spec =
     (tie.spec
     Inv-loop
     μ-loop
-    mul-n
+    holds-bases-requires
     loop-holds
-    overlay-requires
-    find-from-requires
+    sub-loop
+    add-end
+    find-in-chunk-requires
     returns
-    add-i
     loop-less
     loop-again
-    find-from-requires-2
+    find-in-chunk-requires-2
     returns-2)

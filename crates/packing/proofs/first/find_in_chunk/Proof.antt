@@ -1,0 +1,33 @@
+use borrow.Author.Needs.{needs}
+use Rattle.packing.proofs.Search.{passed-bases}
+use Rattle.packing.proofs.first.find_in_chunk.Statement.{statement}
+use Rattle.packing.proofs.first.find_in_chunk.Tie as tie
+
+pass-bases-requires : tie.Need-pass-bases-requires
+pass-bases-requires c κs = search needs
+
+find-by-eight-requires : tie.Need-find-by-eight-requires
+find-by-eight-requires c κs =
+    let s = c .before .before .before in
+    let a = s .args in
+    let p = c .pass-bases .ensures in
+    (p .1 .0, (s .pre .0 .1 .0, passed-bases (a .table .now) (a .text .now) (a .start) (c .pass-bases .result) (p .0) (s .pre .1 (c .before .if1 .taken)) (s .pre .0 .1 .1) (p .1 .1)))
+
+returns : tie.Need-returns
+returns c = search needs
+
+find-by-eight-requires-2 : tie.Need-find-by-eight-requires-2
+find-by-eight-requires-2 c κs = search needs
+
+returns-2 : tie.Need-returns-2
+returns-2 c = search needs
+
+pub find-in-chunk-spec : {M : Type 1} → statement M
+find-in-chunk-spec =
+    tie.close
+    (tie.spec
+    pass-bases-requires
+    find-by-eight-requires
+    returns
+    find-by-eight-requires-2
+    returns-2)
