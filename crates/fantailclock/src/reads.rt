@@ -35,22 +35,15 @@ fn count_of(read: Read) -> Count
 pub extern "C" fn fc_decode_substring_from_bytes_at_offset(
     alphabet: u64,
     bytes: &[u8],
-    byte_offset: u64,
-    start: u64,
-    end: u64,
+    byte_offset: usize,
+    start: usize,
+    end: usize,
     out: &mut [u8],
 ) -> Count
     ensures { λ r. ⌜ r ≡ count (readReply (readAt alphabet «byte_offset» start end (length (now (out .entry))))) ⌝ }
     ensures memory { λ _. ⌜ now (out .exit) ≡ readMemory alphabet (now (bytes .entry)) «byte_offset» start end (now (out .entry)) ⌝ }
 {
-    count_of(decode_substring_from_bytes_at_offset(
-        alphabet,
-        bytes,
-        byte_offset as usize,
-        start as usize,
-        end as usize,
-        out,
-    ))
+    count_of(decode_substring_from_bytes_at_offset(alphabet, bytes, byte_offset, start, end, out))
 }
 
 // The same where the lent bytes are the file's first.
@@ -58,14 +51,14 @@ pub extern "C" fn fc_decode_substring_from_bytes_at_offset(
 pub extern "C" fn fc_decode_substring_from_bytes(
     alphabet: u64,
     bytes: &[u8],
-    start: u64,
-    end: u64,
+    start: usize,
+    end: usize,
     out: &mut [u8],
 ) -> Count
     ensures { λ r. ⌜ r ≡ count (readReply (readAt alphabet 0 start end (length (now (out .entry))))) ⌝ }
     ensures memory { λ _. ⌜ now (out .exit) ≡ readMemory alphabet (now (bytes .entry)) 0 start end (now (out .entry)) ⌝ }
 {
-    count_of(decode_substring_from_bytes(alphabet, bytes, start as usize, end as usize, out))
+    count_of(decode_substring_from_bytes(alphabet, bytes, start, end, out))
 }
 
 // The first `seq_len` bases.
@@ -73,13 +66,13 @@ pub extern "C" fn fc_decode_substring_from_bytes(
 pub extern "C" fn fc_decode_string_from_bytes(
     alphabet: u64,
     bytes: &[u8],
-    seq_len: u64,
+    seq_len: usize,
     out: &mut [u8],
 ) -> Count
     ensures { λ r. ⌜ r ≡ count (readReply (readAt alphabet 0 0 «seq_len» (length (now (out .entry))))) ⌝ }
     ensures memory { λ _. ⌜ now (out .exit) ≡ readMemory alphabet (now (bytes .entry)) 0 0 «seq_len» (now (out .entry)) ⌝ }
 {
-    count_of(decode_string_from_bytes(alphabet, bytes, seq_len as usize, out))
+    count_of(decode_string_from_bytes(alphabet, bytes, seq_len, out))
 }
 
 // The covered read: refused by 3 where a byte of the window's range is not lent.
@@ -87,22 +80,15 @@ pub extern "C" fn fc_decode_string_from_bytes(
 pub extern "C" fn fc_decode_covered(
     alphabet: u64,
     bytes: &[u8],
-    byte_offset: u64,
-    start: u64,
-    end: u64,
+    byte_offset: usize,
+    start: usize,
+    end: usize,
     out: &mut [u8],
 ) -> Count
     ensures { λ r. ⌜ r ≡ count (readReply (coveredAt alphabet (now (bytes .entry)) «byte_offset» start end (length (now (out .entry))))) ⌝ }
     ensures memory { λ _. ⌜ now (out .exit) ≡ coveredMemory alphabet (now (bytes .entry)) «byte_offset» start end (now (out .entry)) ⌝ }
 {
-    count_of(decode_covered(
-        alphabet,
-        bytes,
-        byte_offset as usize,
-        start as usize,
-        end as usize,
-        out,
-    ))
+    count_of(decode_covered(alphabet, bytes, byte_offset, start, end, out))
 }
 
 // The rolling engine.
@@ -110,62 +96,43 @@ pub extern "C" fn fc_decode_covered(
 pub extern "C" fn fc_decode_rolling(
     alphabet: u64,
     bytes: &[u8],
-    byte_offset: u64,
-    start: u64,
-    end: u64,
+    byte_offset: usize,
+    start: usize,
+    end: usize,
     out: &mut [u8],
 ) -> Count
     ensures { λ r. ⌜ r ≡ count (readReply (readAt alphabet «byte_offset» start end (length (now (out .entry))))) ⌝ }
     ensures memory { λ _. ⌜ now (out .exit) ≡ readMemory alphabet (now (bytes .entry)) «byte_offset» start end (now (out .entry)) ⌝ }
 {
-    count_of(decode_rolling(
-        alphabet,
-        bytes,
-        byte_offset as usize,
-        start as usize,
-        end as usize,
-        out,
-    ))
+    count_of(decode_rolling(alphabet, bytes, byte_offset, start, end, out))
 }
 
 // The engine of Dna2bit.
 #[no_mangle]
 pub extern "C" fn fc_decode_2bit(
     bytes: &[u8],
-    byte_offset: u64,
-    start: u64,
-    end: u64,
+    byte_offset: usize,
+    start: usize,
+    end: usize,
     out: &mut [u8],
 ) -> Count
     ensures { λ r. ⌜ r ≡ count (readReply (readAt 0 «byte_offset» start end (length (now (out .entry))))) ⌝ }
     ensures memory { λ _. ⌜ now (out .exit) ≡ readMemory 0 (now (bytes .entry)) «byte_offset» start end (now (out .entry)) ⌝ }
 {
-    count_of(decode_2bit(
-        bytes,
-        byte_offset as usize,
-        start as usize,
-        end as usize,
-        out,
-    ))
+    count_of(decode_2bit(bytes, byte_offset, start, end, out))
 }
 
 // The engine of Dna3bit.
 #[no_mangle]
 pub extern "C" fn fc_decode_3bit(
     bytes: &[u8],
-    byte_offset: u64,
-    start: u64,
-    end: u64,
+    byte_offset: usize,
+    start: usize,
+    end: usize,
     out: &mut [u8],
 ) -> Count
     ensures { λ r. ⌜ r ≡ count (readReply (readAt 1 «byte_offset» start end (length (now (out .entry))))) ⌝ }
     ensures memory { λ _. ⌜ now (out .exit) ≡ readMemory 1 (now (bytes .entry)) «byte_offset» start end (now (out .entry)) ⌝ }
 {
-    count_of(decode_3bit(
-        bytes,
-        byte_offset as usize,
-        start as usize,
-        end as usize,
-        out,
-    ))
+    count_of(decode_3bit(bytes, byte_offset, start, end, out))
 }
