@@ -4,6 +4,7 @@ use crate::shapes::EncoderStarted;
 use crate::shapes::Packed;
 use crate::shapes::Range;
 use crate::shapes::Updated;
+use crate::shapes::number_of;
 use alphabet::AlphabetType;
 use alphabet::Named;
 use alphabet::Refusal;
@@ -77,7 +78,7 @@ pub extern "C" fn fc_byte_range_for_bases(start: u64, end: u64, bits: u64) -> Ra
             end: to as u64,
         },
         packing::Range::Refused(refusal) => Range {
-            refusal: refusal.number() as u64,
+            refusal: number_of(refusal),
             start: 0,
             end: 0,
         },
@@ -206,7 +207,7 @@ pub extern "C" fn fc_encoder_new(alphabet: u64) -> EncoderStarted
     match SequenceEncoder::new(alphabet) {
         packing::EncoderStarted::Fresh(_) => EncoderStarted { refusal: 0, next },
         packing::EncoderStarted::Refused(refusal) => EncoderStarted {
-            refusal: refusal.number() as u64,
+            refusal: number_of(refusal),
             next,
         },
     }
@@ -232,7 +233,7 @@ pub extern "C" fn fc_encoder_update(state: Encoder, piece: &[u8], out: &mut [u8]
                 next: encoder_of(next),
             },
             packing::Updated::Refused(refusal, _) => Updated {
-                refusal: refusal.number() as u64,
+                refusal: number_of(refusal),
                 count: 0,
                 next: state,
             },

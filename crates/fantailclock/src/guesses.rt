@@ -2,6 +2,7 @@
 use crate::shapes::Guesser;
 use crate::shapes::Guessing;
 use crate::shapes::Number;
+use crate::shapes::number_of;
 use alphabet::AlphabetGuesser;
 use alphabet::Guessed;
 use alphabet::GuesserUpdated;
@@ -43,7 +44,7 @@ pub extern "C" fn fc_guesser_update(state: Guesser, text: &[u8]) -> Guessing
             },
         },
         GuesserUpdated::Refused(refusal, _) => Guessing {
-            refusal: refusal.number() as u64,
+            refusal: number_of(refusal),
             next: state,
         },
     }
@@ -68,7 +69,7 @@ pub extern "C" fn fc_guesser_guess(state: Guesser) -> Number
             value: kind.number(),
         },
         Guessed::Refused(refusal, _) => Number {
-            refusal: refusal.number() as u64,
+            refusal: number_of(refusal),
             value: 0,
         },
     }

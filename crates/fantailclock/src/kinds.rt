@@ -1,6 +1,7 @@
 // Widths, members and names of alphabets.
 use crate::shapes::Count;
 use crate::shapes::Number;
+use crate::shapes::number_of;
 use alphabet::Named;
 use alphabet::contains;
 use alphabet::kind_of_number;
@@ -30,7 +31,7 @@ pub extern "C" fn fc_bits_per_symbol(alphabet: u64) -> Number
             value: kind.bits_per_symbol() as u64,
         },
         Named::Refused(refusal) => Number {
-            refusal: refusal.number() as u64,
+            refusal: number_of(refusal),
             value: 0,
         },
     }
@@ -57,7 +58,7 @@ pub extern "C" fn fc_contains(alphabet: u64, byte: u64) -> Number
             }
         }
         Named::Refused(refusal) => Number {
-            refusal: refusal.number() as u64,
+            refusal: number_of(refusal),
             value: 0,
         },
     }
@@ -87,7 +88,7 @@ pub extern "C" fn fc_display_name(alphabet: u64, out: &mut [u8]) -> Count
             }
         }
         Named::Refused(refusal) => Count {
-            refusal: refusal.number() as u64,
+            refusal: number_of(refusal),
             count: 0,
         },
     }

@@ -1,5 +1,6 @@
 // Reads of windows.
 use crate::shapes::Count;
+use crate::shapes::number_of;
 use windows::Read;
 use windows::decode_2bit;
 use windows::decode_3bit;
@@ -24,7 +25,7 @@ fn count_of(read: Read) -> Count
             count: bases as u64,
         },
         Read::Refused(refusal) => Count {
-            refusal: refusal.number() as u64,
+            refusal: number_of(refusal),
             count: 0,
         },
     }

@@ -1,5 +1,9 @@
 // What passes the boundary: structs of 64-bit numbers, by value. `refusal` is 0 for an accepted call.
 
+use alphabet::Refusal;
+ghost use mathlib.Core.Path.{_≡_};
+ghost use Rattle.alphabet.specs.Questions.{refusalReply, numberIn};
+
 #[repr(C)]
 pub struct Number {
     pub refusal: u64,
@@ -94,4 +98,11 @@ pub struct Streamed {
 pub struct Ended {
     pub refusal: u64,
     pub outstanding: u64,
+}
+
+// A refusal's number, as wide as every number here.
+pub fn number_of(refusal: Refusal) -> u64
+    ensures { λ r. ⌜ r ≡ numberIn (refusalReply refusal) ⌝ }
+{
+    refusal.number() as u64
 }

@@ -4,6 +4,7 @@ use crate::shapes::Ended;
 use crate::shapes::Stream;
 use crate::shapes::StreamStarted;
 use crate::shapes::Streamed;
+use crate::shapes::number_of;
 use alphabet::Named;
 use alphabet::kind_of_number;
 use streaming::Status;
@@ -84,7 +85,7 @@ pub extern "C" fn fc_stream_new(alphabet: u64, skip: u64, budget: u64) -> Stream
     match StreamingDecoder::new(alphabet, skip, budget) {
         streaming::StreamStarted::Fresh(_) => StreamStarted { refusal: 0, next },
         streaming::StreamStarted::Refused(refusal) => StreamStarted {
-            refusal: refusal.number() as u64,
+            refusal: number_of(refusal),
             next,
         },
     }
@@ -119,7 +120,7 @@ pub extern "C" fn fc_stream_read(state: Stream, source: &[u8], out: &mut [u8]) -
                 next: stream_of(next),
             },
             streaming::Streamed::Refused(refusal, _) => Streamed {
-                refusal: refusal.number() as u64,
+                refusal: number_of(refusal),
                 taken: 0,
                 written: 0,
                 status: 0,

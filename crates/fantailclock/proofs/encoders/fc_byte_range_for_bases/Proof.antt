@@ -12,17 +12,14 @@ enum-known-from c = search needs
 enum-known-refusal : tie.Need-enum-known-refusal
 enum-known-refusal c = search needs
 
-number-requires : tie.Need-number-requires
-number-requires c κs = search needs
-
-cast-t15 : tie.Need-cast-t15
-cast-t15 c = search needs
+number-of-requires : tie.Need-number-of-requires
+number-of-requires c κs = search needs
 
 returns : tie.Need-returns
 returns c = range-bytes (c .before .before .before .byte-range-for-bases .result) _ _ _ (c .before .from .given .1) (c .before .before .before .byte-range-for-bases .ensures)
 
 returns-2 : tie.Need-returns-2
-returns-2 c = range-refused (c .before .before .before .before .byte-range-for-bases .result) _ _ (c .number .result) (c .before .before .refusal .given .1) (c .before .before .before .before .byte-range-for-bases .ensures) (c .number .ensures)
+returns-2 c = range-refused (c .before .before .before .before .byte-range-for-bases .result) _ _ (c .number-of .result) (c .before .before .refusal .given .1) (c .before .before .before .before .byte-range-for-bases .ensures) (c .number-of .ensures)
 
 pub fc-byte-range-for-bases-spec : {M : Type 1} → statement M
 fc-byte-range-for-bases-spec =
@@ -31,7 +28,6 @@ fc-byte-range-for-bases-spec =
     byte-range-for-bases-requires
     enum-known-from
     enum-known-refusal
-    number-requires
-    cast-t15
+    number-of-requires
     returns
     returns-2)

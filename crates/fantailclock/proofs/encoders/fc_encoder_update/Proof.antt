@@ -25,11 +25,8 @@ encoder-of-requires c κs = search needs
 enum-known-refusal : tie.Need-enum-known-refusal
 enum-known-refusal c = search needs
 
-number-requires : tie.Need-number-requires
-number-requires c κs = search needs
-
-cast-t18 : tie.Need-cast-t18
-cast-t18 c = search needs
+number-of-requires : tie.Need-number-of-requires
+number-of-requires c κs = search needs
 
 returns : tie.Need-returns
 returns c = let a = c .before .before .before .before .before .before .args in update-no (a .state) (a .piece .now) (a .out .now) _ (sym (c .before .stands .given .1) ∙ c .before .before .before .state-of .ensures)
@@ -44,7 +41,7 @@ same-length-2 : tie.Need-same-length-2
 same-length-2 c = search needs
 
 returns-3 : tie.Need-returns-3
-returns-3 c = let a = c .before .before .before .before .before .before .before .before .before .before .before .before .before .before .args in let k = c .before .before .before .before .before .before .update in update-refused (a .state) (a .piece .now) (a .out .now) _ (sym (c .before .before .before .before .before .before .before .before .before .stands2 .given .1) ∙ c .before .before .before .before .before .before .before .before .before .before .before .state-of .ensures) (k .result) _ _ (c .before .before .refusal .given .1) (k .ensures .0) (c .number .result) (c .number .ensures) _ (k .ensures .1)
+returns-3 c = let a = c .before .before .before .before .before .before .before .before .before .before .before .before .before .before .args in let k = c .before .before .before .before .before .before .update in update-refused (a .state) (a .piece .now) (a .out .now) _ (sym (c .before .before .before .before .before .before .before .before .before .stands2 .given .1) ∙ c .before .before .before .before .before .before .before .before .before .before .before .state-of .ensures) (k .result) _ _ (c .before .before .refusal .given .1) (k .ensures .0) (c .number-of .result) (c .number-of .ensures) _ (k .ensures .1)
 
 pub fc-encoder-update-spec : {M : Type 1} → statement M
 fc-encoder-update-spec =
@@ -57,8 +54,7 @@ fc-encoder-update-spec =
     enum-known-count
     encoder-of-requires
     enum-known-refusal
-    number-requires
-    cast-t18
+    number-of-requires
     returns
     same-length
     returns-2

@@ -21,17 +21,14 @@ number-requires c κs = search needs
 enum-known-refusal : tie.Need-enum-known-refusal
 enum-known-refusal c = search needs
 
-number-requires-2 : tie.Need-number-requires-2
-number-requires-2 c κs = search needs
-
-cast-t11 : tie.Need-cast-t11
-cast-t11 c = search needs
+number-of-requires : tie.Need-number-of-requires
+number-of-requires c κs = search needs
 
 returns-2 : tie.Need-returns-2
 returns-2 c = guess-kind (c .before .before .before .before .before .before .before .before .args .state) _ (c .before .before .before .before .guess .result) _ (c .number .result) (c .before .before .kind .given .1) (c .before .before .before .before .guess .ensures .1) (c .number .ensures)
 
 returns-3 : tie.Need-returns-3
-returns-3 c = guess-refused (c .before .before .before .before .before .before .before .before .args .state) _ (c .before .before .before .before .guess .result) _ _ (c .number2 .result) (c .before .before .refusal .given .1) (c .before .before .before .before .guess .ensures .1) (c .number2 .ensures)
+returns-3 c = guess-refused (c .before .before .before .before .before .before .before .before .args .state) _ (c .before .before .before .before .guess .result) _ _ (c .number-of .result) (c .before .before .refusal .given .1) (c .before .before .before .before .guess .ensures .1) (c .number-of .ensures)
 
 pub fc-guesser-guess-spec : {M : Type 1} → statement M
 fc-guesser-guess-spec =
@@ -43,7 +40,6 @@ fc-guesser-guess-spec =
     enum-known-kind
     number-requires
     enum-known-refusal
-    number-requires-2
-    cast-t11
+    number-of-requires
     returns-2
     returns-3)

@@ -21,17 +21,14 @@ cast-t10 c = search needs
 enum-known-refusal : tie.Need-enum-known-refusal
 enum-known-refusal c = search needs
 
-number-requires : tie.Need-number-requires
-number-requires c κs = search needs
-
-cast-t13 : tie.Need-cast-t13
-cast-t13 c = search needs
+number-of-requires : tie.Need-number-of-requires
+number-of-requires c κs = search needs
 
 returns-2 : tie.Need-returns-2
 returns-2 c = update-next (c .before .before .before .before .before .before .before .before .before .args .state) _ (c .before .before .before .before .update .result) _ (c .before .before .next .given .1) (c .before .before .before .before .update .ensures .1)
 
 returns-3 : tie.Need-returns-3
-returns-3 c = update-refused (c .before .before .before .before .before .before .before .before .before .args .state) _ (c .before .before .before .before .update .result) _ _ (c .number .result) (c .before .before .refusal .given .1) (c .before .before .before .before .update .ensures .1) (c .number .ensures)
+returns-3 c = update-refused (c .before .before .before .before .before .before .before .before .before .args .state) _ (c .before .before .before .before .update .result) _ _ (c .number-of .result) (c .before .before .refusal .given .1) (c .before .before .before .before .update .ensures .1) (c .number-of .ensures)
 
 pub fc-guesser-update-spec : {M : Type 1} → statement M
 fc-guesser-update-spec =
@@ -43,7 +40,6 @@ fc-guesser-update-spec =
     enum-known-next
     cast-t10
     enum-known-refusal
-    number-requires
-    cast-t13
+    number-of-requires
     returns-2
     returns-3)

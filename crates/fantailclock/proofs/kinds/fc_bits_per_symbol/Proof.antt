@@ -16,11 +16,8 @@ bits-per-symbol-requires c κs = search needs
 enum-known-refusal : tie.Need-enum-known-refusal
 enum-known-refusal c = search needs
 
-number-requires : tie.Need-number-requires
-number-requires c κs = search needs
-
-cast-t9 : tie.Need-cast-t9
-cast-t9 c = search needs
+number-of-requires : tie.Need-number-of-requires
+number-of-requires c κs = search needs
 
 returns : tie.Need-returns
 returns c =
@@ -28,7 +25,7 @@ returns c =
     bits-known (c .before .before .before .before .before .args .alphabet) _ (c .bits-per-symbol .result) (sym (c .before .before .before .before .kind-of-number .ensures .0) ∙ k .kind .given .1) (c .bits-per-symbol .ensures)
 
 returns-2 : tie.Need-returns-2
-returns-2 c = bits-refused (c .before .before .before .before .before .args .alphabet) _ (c .number .result) (sym (c .before .before .before .before .kind-of-number .ensures .0) ∙ c .before .before .refusal .given .1) (c .number .ensures)
+returns-2 c = bits-refused (c .before .before .before .before .before .args .alphabet) _ (c .number-of .result) (sym (c .before .before .before .before .kind-of-number .ensures .0) ∙ c .before .before .refusal .given .1) (c .number-of .ensures)
 
 pub fc-bits-per-symbol-spec : {M : Type 1} → statement M
 fc-bits-per-symbol-spec =
@@ -38,7 +35,6 @@ fc-bits-per-symbol-spec =
     enum-known-kind
     bits-per-symbol-requires
     enum-known-refusal
-    number-requires
-    cast-t9
+    number-of-requires
     returns
     returns-2)

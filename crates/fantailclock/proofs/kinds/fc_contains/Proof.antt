@@ -29,11 +29,8 @@ returns c = contains-known (c .before .before .before .before .before .before .b
 enum-known-refusal : tie.Need-enum-known-refusal
 enum-known-refusal c = search needs
 
-number-requires : tie.Need-number-requires
-number-requires c κs = search needs
-
-cast-t11 : tie.Need-cast-t11
-cast-t11 c = search needs
+number-of-requires : tie.Need-number-of-requires
+number-of-requires c κs = search needs
 
 returns-2 : tie.Need-returns-2
 returns-2 c = contains-known (c .before .before .before .before .before .before .before .args .alphabet) _ (c .before .before .before .before .before .before .before .args .byte) false (named (c .before .before .before .before)) (sym (c .if2 .left) ∙ c .before .contains .ensures)
@@ -42,7 +39,7 @@ returns-3 : tie.Need-returns-3
 returns-3 c = contains-none (c .before .before .before .before .before .args .alphabet) _ (c .before .before .before .before .before .args .byte) (named (c .before .before)) (c .if1 .left)
 
 returns-4 : tie.Need-returns-4
-returns-4 c = contains-refused (c .before .before .before .before .before .args .alphabet) (c .before .before .before .before .before .args .byte) _ (c .number .result) (sym (c .before .before .before .before .kind-of-number .ensures .0) ∙ c .before .before .refusal .given .1) (c .number .ensures)
+returns-4 c = contains-refused (c .before .before .before .before .before .args .alphabet) (c .before .before .before .before .before .args .byte) _ (c .number-of .result) (sym (c .before .before .before .before .kind-of-number .ensures .0) ∙ c .before .before .refusal .given .1) (c .number-of .ensures)
 
 pub fc-contains-spec : {M : Type 1} → statement M
 fc-contains-spec =
@@ -54,8 +51,7 @@ fc-contains-spec =
     contains-requires
     returns
     enum-known-refusal
-    number-requires
-    cast-t11
+    number-of-requires
     returns-2
     returns-3
     returns-4)

@@ -36,11 +36,8 @@ put-requires c κs =
 enum-known-refusal : tie.Need-enum-known-refusal
 enum-known-refusal c = search needs
 
-number-requires : tie.Need-number-requires
-number-requires c κs = search needs
-
-cast-t19 : tie.Need-cast-t19
-cast-t19 c = search needs
+number-of-requires : tie.Need-number-of-requires
+number-of-requires c κs = search needs
 
 same-length : tie.Need-same-length
 same-length c = search needs
@@ -51,7 +48,7 @@ returns-2 c =
     name-fits (c .before .before .before .before .before .before .before .before .before .before .before .before .before .args .alphabet) _ (d .display-name .result) (c .before .before .before .before .before .before .before .before .before .before .before .before .before .args .out .now) (c .before .before .put .last .1 .1 .0) (named (d .before .before)) (d .display-name .ensures) (c .before .before .before .before .before .if1 .left) (c .before .before .put .ensures)
 
 returns-3 : tie.Need-returns-3
-returns-3 c = name-refused (c .before .before .before .before .before .before .args .alphabet) (c .before .before .before .before .before .before .args .out .now) _ (c .number .result) (sym (c .before .before .before .before .kind-of-number .ensures .0) ∙ c .before .before .refusal .given .1) (c .number .ensures)
+returns-3 c = name-refused (c .before .before .before .before .before .before .args .alphabet) (c .before .before .before .before .before .before .args .out .now) _ (c .number-of .result) (sym (c .before .before .before .before .kind-of-number .ensures .0) ∙ c .before .before .refusal .given .1) (c .number-of .ensures)
 
 pub fc-display-name-spec : {M : Type 1} → statement M
 fc-display-name-spec =
@@ -64,8 +61,7 @@ fc-display-name-spec =
     slice-aggregate-put
     put-requires
     enum-known-refusal
-    number-requires
-    cast-t19
+    number-of-requires
     same-length
     returns-2
     returns-3)

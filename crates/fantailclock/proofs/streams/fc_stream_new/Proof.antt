@@ -12,19 +12,16 @@ enum-told c = search needs
 enum-known-refusal : tie.Need-enum-known-refusal
 enum-known-refusal c = search needs
 
-number-requires : tie.Need-number-requires
-number-requires c κs = search needs
-
-cast-t9 : tie.Need-cast-t9
-cast-t9 c = search needs
+number-of-requires : tie.Need-number-of-requires
+number-of-requires c κs = search needs
 
 returns : tie.Need-returns
 returns c = let a = c .before .before .before .args in start-fresh (a .alphabet) (a .skip) (a .budget) (c .before .before .new .result) _ (c .enum-told .given .1) (c .before .before .new .ensures)
 
 returns-2 : tie.Need-returns-2
-returns-2 c = let a = c .before .before .before .before .before .args in start-refused (a .alphabet) (a .skip) (a .budget) (c .before .before .before .before .new .result) _ (c .number .result) (c .before .before .refusal .given .1) (c .before .before .before .before .new .ensures) (c .number .ensures)
+returns-2 c = let a = c .before .before .before .before .before .args in start-refused (a .alphabet) (a .skip) (a .budget) (c .before .before .before .before .new .result) _ (c .number-of .result) (c .before .before .refusal .given .1) (c .before .before .before .before .new .ensures) (c .number-of .ensures)
 
 pub fc-stream-new-spec : {M : Type 1} → statement M
 fc-stream-new-spec =
     tie.close
-    (tie.spec new-requires enum-told enum-known-refusal number-requires cast-t9 returns returns-2)
+    (tie.spec new-requires enum-told enum-known-refusal number-of-requires returns returns-2)

@@ -28,11 +28,8 @@ stream-of-requires c κs = search needs
 enum-known-refusal : tie.Need-enum-known-refusal
 enum-known-refusal c = search needs
 
-number-requires : tie.Need-number-requires
-number-requires c κs = search needs
-
-cast-t22 : tie.Need-cast-t22
-cast-t22 c = search needs
+number-of-requires : tie.Need-number-of-requires
+number-of-requires c κs = search needs
 
 returns : tie.Need-returns
 returns c = let a = c .before .before .before .before .before .before .args in stream-no (a .state) (a .source .now) (a .out .now) _ (sym (c .before .stands .given .1) ∙ c .before .before .before .state-of .ensures)
@@ -47,7 +44,7 @@ same-length-2 : tie.Need-same-length-2
 same-length-2 c = search needs
 
 returns-3 : tie.Need-returns-3
-returns-3 c = let a = c .before .before .before .before .before .before .before .before .before .before .before .before .before .before .args in let k = c .before .before .before .before .before .before .read in stream-refused (a .state) (a .source .now) (a .out .now) _ (sym (c .before .before .before .before .before .before .before .before .before .stands2 .given .1) ∙ c .before .before .before .before .before .before .before .before .before .before .before .state-of .ensures) (k .result) _ _ (c .before .before .refusal .given .1) (k .ensures .0) (c .number .result) (c .number .ensures) _ (k .ensures .1)
+returns-3 c = let a = c .before .before .before .before .before .before .before .before .before .before .before .before .before .before .args in let k = c .before .before .before .before .before .before .read in stream-refused (a .state) (a .source .now) (a .out .now) _ (sym (c .before .before .before .before .before .before .before .before .before .stands2 .given .1) ∙ c .before .before .before .before .before .before .before .before .before .before .before .state-of .ensures) (k .result) _ _ (c .before .before .refusal .given .1) (k .ensures .0) (c .number-of .result) (c .number-of .ensures) _ (k .ensures .1)
 
 pub fc-stream-read-spec : {M : Type 1} → statement M
 fc-stream-read-spec =
@@ -61,8 +58,7 @@ fc-stream-read-spec =
     status-of-requires
     stream-of-requires
     enum-known-refusal
-    number-requires
-    cast-t22
+    number-of-requires
     returns
     same-length
     returns-2
