@@ -1,0 +1,4 @@
+pub mod Spelling
+pub mod Parts
+pub mod Made
+pub mod Examples

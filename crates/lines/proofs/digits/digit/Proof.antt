@@ -1,0 +1,26 @@
+use borrow.Author.Needs.{needs}
+use Rattle.lines.proofs.Spelling.{digit-low, digit-high}
+use Rattle.lines.proofs.digits.digit.Statement.{statement}
+use Rattle.lines.proofs.digits.digit.Tie as tie
+
+cast-result : tie.Need-cast-result
+cast-result c = search needs
+
+add-result : tie.Need-add-result
+add-result c = search needs
+
+cast-result-2 : tie.Need-cast-result-2
+cast-result-2 c = search needs
+
+add-result-2 : tie.Need-add-result-2
+add-result-2 c = search needs
+
+returns : tie.Need-returns
+returns c = digit-low (c .before .args .d) (c .if1 .taken)
+
+returns-2 : tie.Need-returns-2
+returns-2 c = digit-high (c .before .args .d) (c .if1 .left) (c .before .pre)
+
+pub digit-spec : {M : Type 1} → statement M
+digit-spec =
+    tie.close (tie.spec cast-result add-result cast-result-2 add-result-2 returns returns-2)
