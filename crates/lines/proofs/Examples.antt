@@ -1,8 +1,6 @@
 -- Examples of digits and lines, computed.
 use mathlib.Core.Path.{_≡_, refl}
-use mathlib.Core.List.{List, [], _∷_, _++_, map}
-use Prim.Native.Nat.{ℕ}
-use Prim.Native.String.{String}
+use mathlib.Core.List.{[], _∷_}
 use Rattle.alphabet.specs.Symbols.{bytesOf}
 use Rattle.alphabet.specs.Questions.{by}
 use Rattle.alphabet.specs.Names.{displayName}

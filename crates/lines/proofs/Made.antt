@@ -1,7 +1,7 @@
 -- How long each function's lines are, and that its parts, one behind the other, are these lines.
 use mathlib.Core.Path.{_≡_, refl, sym, ap, _∙_}
 use mathlib.Core.List.{List, [], _∷_, _++_, append-assoc}
-use Prim.Native.Nat.{ℕ, _+_, _-_, _*_, _≤_, _<_}
+use Prim.Native.Nat.{ℕ, _+_, _-_, _*_, _≤_}
 use native.Mathlib.Omega.{arith}
 use lib.ListN.{length, take, drop, length-append, length-drop}
 use lib.Seq.{take-all, length-take-le}
@@ -16,7 +16,7 @@ use Rattle.alphabet.proofs.Calls.{spelt, name-within}
 use Rattle.lines.specs.Digits.{decimal, hex}
 use Rattle.lines.specs.Spelt.{Spelt}
 use Rattle.lines.specs.Lines.{line, packedLines, refusedLine, putCount, putMemory}
-use Rattle.lines.proofs.Spelling.{hex-length}
+use Rattle.lines.proofs.Spelling.{decimal-short, hex-length}
 use Rattle.lines.proofs.Parts.{line-length, Put, put-next, put-fits}
 
 -- ---- a number's digits
@@ -50,8 +50,11 @@ module _ (q : Refusal) (m : ℕ) (bytes : List ℕ) (from : ℕ) (e : m ≡ numb
       ∙ omega (arith, eight, line-length (decimal m), digits-length m bytes from s)
 
   pub refused-made :
-      (memory out next part : List ℕ) (at r : ℕ) → 9 + (20 - from) ≤ length memory → part ≡ decimal m → at ≡ 0 + 8 → out ≡ putAt 0 refusedWord memory → r ≡ at + length (line part) → next ≡ putAt at (line part) out → (r ≡ putCount (refusedLine q) (length memory)) × (next ≡ putMemory (refusedLine q) memory)
-  refused-made memory out next part at r room p a o b n =
+      (memory out next part : List ℕ) (at r : ℕ) → 9 + (20 - from) ≤ length memory
+      → at ≡ 0 + 8 → out ≡ putAt 0 refusedWord memory
+      → part ≡ decimal m → r ≡ at + length (line part) → next ≡ putAt at (line part) out
+      → (r ≡ putCount (refusedLine q) (length memory)) × (next ≡ putMemory (refusedLine q) memory)
+  refused-made memory out next part at r room a o p b n =
       let l = refused-length in
       let first : Put refusedWord memory at out = (omega (arith, eight), o) in
       let whole : Put (refusedWord ++ line (decimal m)) memory r next =
@@ -114,3 +117,20 @@ module _ (k : AlphabetType) (name : Name) (q : name ≡ nameOf k) where
         let p3 : Put (two-lines ++ hex packed) memory r3 m3 = put-next two-lines memory m2 r2 (hex packed) m3 r3 p2 (omega arith) a3 o3 in
         let p4 : Put ((two-lines ++ hex packed) ++ line []) memory r4 m4 = put-next (two-lines ++ hex packed) memory m3 r3 (line []) m4 r4 p3 (omega arith) (omega arith) o4 in
         put-fits (packedLines k count packed) memory m4 r4 (rw four-parts at p4) (omega (arith, packed-length))
+
+-- ---- the most bytes that lines can have
+
+pub refused-most : (q : Refusal) → length (refusedLine q) ≤ 29
+unfolding refusedLine
+refused-most q =
+    let m : ℕ = numberIn (refusalReply q) in
+    omega (arith, line-length (refusedWord ++ decimal m), length-append refusedWord (decimal m), eight, decimal-short m)
+
+pub packed-most : (k : AlphabetType) (count : ℕ) (packed : List ℕ) → length (packedLines k count packed) ≤ 30 + 2 * length packed
+unfolding packedLines
+packed-most k count packed =
+    let name : length (displayName k) ≤ 7 = omega (arith, name-length k (nameOf k) refl, spelt k .within) in
+    let l1 = line-length (displayName k) in
+    let l2 = line-length (decimal count) in
+    let l3 = line-length (hex packed) in
+    omega (arith, length-append (line (displayName k)) (line (decimal count) ++ line (hex packed)), length-append (line (decimal count)) (line (hex packed)), decimal-short count, hex-length packed)

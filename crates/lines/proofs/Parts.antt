@@ -1,8 +1,7 @@
 -- Laws of memory that is filled part by part, each part behind the one before it.
 use mathlib.Core.Path.{_≡_, sym, ap, _∙_}
 use mathlib.Core.List.{List, [], _∷_, _++_, append-assoc}
-use Prim.Native.Nat.{ℕ, suc, _+_, _*_, _/_, _%_, _≤_, _<_}
-use native.Mathlib.Nat.{add-assoc, zero-add}
+use Prim.Native.Nat.{ℕ, _+_, _*_, _/_, _%_, _≤_, _<_}
 use native.Mathlib.Numerals.{add-one}
 use native.Mathlib.Omega.{arith}
 use borrow.Author.Tests.{le-leb, lt-leb}
@@ -25,7 +24,8 @@ put-byte at xs memory out p v e q h =
 
 -- a text's first i bytes, and one more
 pub text-turn :
-    (at : ℕ) (text memory out : List ℕ) (i : ℕ) → i < length text → at + length text ≤ length memory → out ≡ putAt at (take i text) memory → set out (at + i) (getD text i 0) ≡ putAt at (take (i + 1) text) memory
+    (at : ℕ) (text memory out : List ℕ) (i : ℕ) → i < length text → at + length text ≤ length memory → out ≡ putAt at (take i text) memory
+    → set out (at + i) (getD text i 0) ≡ putAt at (take (i + 1) text) memory
 text-turn at text memory out i h room e =
     let n : length (take i text) ≡ i = length-take-le i text (omega arith) in
     put-byte at (take i text) memory out (at + i) (getD text i 0) e (omega arith) (omega arith)
@@ -34,7 +34,8 @@ text-turn at text memory out i h room e =
 -- the digits of the first i bytes, and those of one more
 module _ (at : ℕ) (bytes memory out : List ℕ) (i : ℕ) (h : i < length bytes) (room : at + length (hex bytes) ≤ length memory) where
   pub hex-turn :
-      (end a b v : ℕ) → out ≡ putAt at (hex (take i bytes)) memory → end ≡ at + 2 * i → v ≡ getD bytes i 0 → a ≡ digit (v / 16) → b ≡ digit (v % 16) → set (set out end a) (end + 1) b ≡ putAt at (hex (take (i + 1) bytes)) memory
+      (end a b v : ℕ) → out ≡ putAt at (hex (take i bytes)) memory → end ≡ at + 2 * i → v ≡ getD bytes i 0 → a ≡ digit (v / 16) → b ≡ digit (v % 16)
+      → set (set out end a) (end + 1) b ≡ putAt at (hex (take (i + 1) bytes)) memory
   unfolding hex
   hex-turn end a b v e q f fa fb =
       let xs : List ℕ = hex (take i bytes) in
@@ -57,7 +58,9 @@ line-length text = length-append text (10 ∷ [])
 
 -- a text, and then the line's end
 pub end-put :
-    (at : ℕ) (text memory out next : List ℕ) (end r : ℕ) → at + length (line text) ≤ length memory → end ≡ at + length text → out ≡ putAt at text memory → r ≡ end + 1 → next ≡ putAt end (line []) out → (r ≡ at + length (line text)) × (next ≡ putAt at (line text) memory)
+    (at : ℕ) (text memory out next : List ℕ) (end r : ℕ) → at + length (line text) ≤ length memory
+    → end ≡ at + length text → out ≡ putAt at text memory → r ≡ end + 1 → next ≡ putAt end (line []) out
+    → (r ≡ at + length (line text)) × (next ≡ putAt at (line text) memory)
 unfolding line
 end-put at text memory out next end r room q e f g =
     (omega (arith, line-length text), g ∙ rw (q, e) (put-put at text memory (omega (arith, line-length text)) (10 ∷ [])))
@@ -68,18 +71,26 @@ Put text memory at out = (at ≡ length text) × (out ≡ putAt 0 text memory)
 
 -- a part behind it
 pub put-next :
-    (text memory out : List ℕ) (at : ℕ) (part next : List ℕ) (r : ℕ) → Put text memory at out → length text + length part ≤ length memory → r ≡ at + length part → next ≡ putAt at part out → Put (text ++ part) memory r next
+    (text memory out : List ℕ) (at : ℕ) (part next : List ℕ) (r : ℕ) → Put text memory at out → length text + length part ≤ length memory
+    → r ≡ at + length part → next ≡ putAt at part out → Put (text ++ part) memory r next
 put-next text memory out at part next r p room q e =
     let n : length (text ++ part) ≡ length text + length part = length-append text part in
     let z : at ≡ 0 + length text = omega (arith, p .0) in
     (omega (arith, p .0), e ∙ rw (z, p .1) (put-put 0 text memory (omega arith) part))
 
 -- what a function answers where the text fits, and where it does not
-pub put-fits : (text memory out : List ℕ) (r : ℕ) → Put text memory r out → length text ≤ length memory → (r ≡ putCount text (length memory)) × (out ≡ putMemory text memory)
+pub put-whole : (text memory : List ℕ) → length text ≤ length memory → (putCount text (length memory) ≡ length text) × (putMemory text memory ≡ front text memory)
 unfolding putCount putMemory
-put-fits text memory out r p h =
+put-whole text memory h =
     let yes′ = le-leb (length text) (length memory) h in
-    (rw yes′ (p .0), rw yes′ (p .1 ∙ put-front text memory))
+    (rw yes′, rw yes′)
+
+pub put-fits :
+    (text memory out : List ℕ) (r : ℕ) → Put text memory r out → length text ≤ length memory
+    → (r ≡ putCount text (length memory)) × (out ≡ putMemory text memory)
+put-fits text memory out r p h =
+    let w = put-whole text memory h in
+    (p .0 ∙ sym (w .0), p .1 ∙ put-front text memory ∙ sym (w .1))
 
 pub put-short : (text memory : List ℕ) → length memory < length text → (0 ≡ putCount text (length memory)) × (memory ≡ putMemory text memory)
 unfolding putCount putMemory

@@ -1,13 +1,14 @@
 -- Laws of digits: what a digit's character is, how a number's last digit and the others follow from each other, and how long hexadecimal is.
 use mathlib.Core.Path.{_≡_, refl, sym, ap, _∙_}
+use mathlib.Core.Bool.{Bool, true, false, cond}
 use mathlib.Core.List.{List, [], _∷_, _++_, append-nil, append-assoc}
 use Prim.Native.Nat.{ℕ, zero, suc, _+_, _-_, _*_, _/_, _%_, _^_, _≤_, _<_}
 use native.Mathlib.Nat.{pow-suc, pow-le-pow-right, div-lt-iff-lt-mul, lt-of-lt-of-le}
 use native.Mathlib.Decide.{decLt}
 use native.Mathlib.Omega.{arith}
 use borrow.Author.Tests.{lt-ltb, le-ltb}
-use lib.Dec.{eqb, eqb→eq, lit<, lit≤}
-use lib.ListN.{length, take, drop, set, replicate, length-set}
+use lib.Dec.{ltb, eqb, eqb→eq, lit<, lit≤}
+use lib.ListN.{length, take, drop, set, replicate, length-set, length-append}
 use lib.Seq.{length-take-le, set-split, drop-at}
 use Rattle.bits.proofs.Computed.{below}
 use Rattle.alphabet.specs.Symbols.{bytesOf}
@@ -57,6 +58,19 @@ decimal-one n h = in-one 19 n h
 pub decimal-more : (n : ℕ) → 10 ≤ n → n < 10 ^ 20 → decimal n ≡ decimal (n / 10) ++ (digit (n % 10) ∷ [])
 unfolding decimal
 decimal-more n h l = in-more 19 n h ∙ ap (λ (ds : List ℕ). ds ++ (digit (n % 10) ∷ [])) (sym (enough 18 (n / 10) (omega arith)))
+
+in-short : (k n : ℕ) → length (decimalIn k n) ≤ k
+unfolding decimalIn
+in-short zero n = lit≤ tt
+in-short (suc k) n = go (in-short k (n / 10)) (ltb n 10)
+  where
+    go : length (decimalIn k (n / 10)) ≤ k → (b : Bool) → length (cond b (digit n ∷ []) (decimalIn k (n / 10) ++ (digit (n % 10) ∷ []))) ≤ suc k
+    go ih true = omega arith
+    go ih false = omega (arith, length-append (decimalIn k (n / 10)) (digit (n % 10) ∷ []))
+
+pub decimal-short : (n : ℕ) → length (decimal n) ≤ 20
+unfolding decimal
+decimal-short n = in-short 20 n
 
 -- the digits of a number that is below 10 ^ f, the last of them stored: those of `rest` are to come, and for them there are f bytes
 pub record Rest (number : ℕ) (bytes : List ℕ) (f rest : ℕ) : Type 0 where

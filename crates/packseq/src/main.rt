@@ -1,11 +1,19 @@
 // Guesses the alphabet of standard input, at most 16,384 bytes, packs it, and prints the alphabet's display name, the input's byte count in decimal and the
 // packed bytes in lowercase hexadecimal, a line each.
-use alphabet::AlphabetType;
 use coder::Encoded;
 use libc::STDIN_FILENO;
 use libc::STDOUT_FILENO;
+ghost use mathlib.Core.Path.{_≡_};
 ghost use Prim.Native.Nat.{_≤_};
 ghost use lib.ListN.{length};
+ghost use Rattle.bits.specs.Memory.{front};
+ghost use Rattle.packseq.specs.Printed.{most, printed};
+
+// The most bytes that are packed.
+const LONGEST: usize = 16384;
+
+// The most bytes that are printed: three lines of at most 8, 21 and 32,769 bytes.
+const MOST: usize = 32798;
 
 // How much of a buffer was read, and whether every read went well.
 struct Input {
@@ -33,70 +41,41 @@ fn read_input(buf: &mut [u8]) -> Input
     Input { whole: true, len }
 }
 
+// Puts the whole output for a text at the front of `out`, and answers how long it is.
+fn put_output(text: &[u8], out: &mut [u8]) -> usize
+    requires { ⌜ most ≤ length (now out) ⌝ }
+    ensures { λ r. ⌜ r ≡ length (printed (now (text .entry))) ⌝ }
+    ensures memory { λ _. ⌜ now (out .exit) ≡ front (printed (now (text .entry))) (now (out .entry)) ⌝ }
+{
+    if LONGEST < text.len() {
+        return lines::text_line(b"too long", out);
+    }
+    let kind = alphabet::guess_alphabet(text);
+    let mut packed = [0u8; LONGEST];
+    let answer = coder::encode_sequence(kind.number(), text, &mut packed);
+    let Encoded::Wrote(count) = answer else {
+        let Encoded::Refused(refusal) = answer else {
+            return 0;
+        };
+        return lines::refused_line(refusal, out);
+    };
+    lines::packed_lines(kind, text.len() as u64, &packed[..count], out)
+}
+
 fn print(text: &[u8]) {
     io::write_all(STDOUT_FILENO, text);
 }
 
-fn print_number(number: u64) {
-    io::print_decimal(STDOUT_FILENO, number);
-    print(b"\n");
-}
-
-fn print_name(kind: AlphabetType) {
-    let name = kind.display_name();
-    let n = name.len;
-    let bytes = name.bytes;
-    print(&bytes[..n]);
-    print(b"\n");
-}
-
-fn print_byte(byte: u8) {
-    io::print_hex(STDOUT_FILENO, byte as u64, 2);
-}
-
-// The first `count` bytes of memory.
-fn print_front(memory: &[u8], count: usize) {
-    if count <= memory.len() {
-        for i in 0..count {
-            print_byte(memory[i]);
-        }
-    }
-    print(b"\n");
-}
-
-fn print_refused(answer: Encoded) {
-    if let Encoded::Refused(refusal) = answer {
-        print(b"refused ");
-        print_number(refusal.number() as u64);
-    }
-}
-
-// The three lines, or the refusal: the guess leaves no text that meets one.
-fn print_packed(text: &[u8]) {
-    let kind = alphabet::guess_alphabet(text);
-    let mut out = [0u8; 16384];
-    let answer = coder::encode_sequence(kind.number(), text, &mut out);
-    let Encoded::Wrote(count) = answer else {
-        print_refused(answer);
-        return;
-    };
-    print_name(kind);
-    print_number(text.len() as u64);
-    print_front(&out, count);
-}
-
 fn main() {
     // one byte more than is taken, so that a longer input shows
-    let mut text = [0u8; 16385];
+    let mut text = [0u8; LONGEST + 1];
     let input = read_input(&mut text);
     let len = input.len;
     if !input.whole {
         print(b"cannot read\n");
         return;
     }
-    if 16384 < len {
-        print(b"too long\n");
-        return;
-    }
-    print_packed(&text[..len]);
+    let mut out = [0u8; MOST];
+    let n = put_output(&text[..len], &mut out);
+    print(&out[..n]);
 }

@@ -1,3 +1,4 @@
+use native.Mathlib.Omega.{arith}
 use borrow.Author.Needs.{needs}
 use Rattle.lines.proofs.Spelling.{Rest, rest-start, rest-turn, rest-last}
 use Rattle.lines.proofs.digits.decimal.Statement.{statement}
@@ -27,7 +28,7 @@ loop-less c = search needs
 loop-again : tie.Need-loop-again Inv-loop μ-loop
 loop-again c =
     let l = c .before .before .loop in
-    rest-turn (c .before .before .before .args .number) (l .bytes) (l .from) (l .rest) (l .inv) (c .digit .result) (c .before .loop-test .taken) (c .digit .ensures)
+    rest-turn (c .before .before .before .args .number) (l .bytes) (l .from) (l .rest) (l .inv) (c .digit .result) (omega (arith, c .before .loop-test .taken)) (c .digit .ensures)
 
 sub-from-2 : tie.Need-sub-from-2 Inv-loop μ-loop
 sub-from-2 c = search needs
@@ -41,7 +42,7 @@ array-write-bytes-2 c = search needs
 returns : tie.Need-returns Inv-loop μ-loop
 returns c =
     let l = c .before .before .loop in
-    rest-last (c .before .before .before .args .number) (l .bytes) (l .from) (l .rest) (l .inv) (c .digit2 .result) (c .before .loop-test .left) (c .digit2 .ensures)
+    rest-last (c .before .before .before .args .number) (l .bytes) (l .from) (l .rest) (l .inv) (c .digit2 .result) (omega (arith, c .before .loop-test .left)) (c .digit2 .ensures)
 
 pub decimal-spec : {M : Type 1} → statement M
 decimal-spec =

@@ -10,7 +10,7 @@ use Rattle.lines.specs.Digits.{decimal}
 use Rattle.lines.specs.Lines.{line, packedLines}
 use Rattle.lines.proofs.Spelling.{hex-length}
 use Rattle.lines.proofs.Parts.{line-length, put-short}
-use Rattle.lines.proofs.Made.{part-digits, digits-length, part-name, name-length, name-short, packed-length, packed-made}
+use Rattle.lines.proofs.Made.{part-digits, digits-length, part-name, name-short, packed-length, packed-made}
 use Rattle.lines.proofs.line.packed_lines.Statement.{statement}
 use Rattle.lines.proofs.line.packed_lines.Tie as tie
 

@@ -1,4 +1,4 @@
-use mathlib.Core.Path.{_≡_, ap}
+use mathlib.Core.Path.{ap}
 use mathlib.Core.List.{List}
 use Prim.Native.Nat.{ℕ}
 use native.Mathlib.Omega.{arith}
@@ -71,7 +71,7 @@ returns-2 c =
     let r = d .decimal .result in
     let n = d .before .number in
     let a = d .before .before .before .args in
-    refused-made (a .refusal) (n .result) (r .bytes) (r .from) (n .ensures) (d .decimal .ensures) (a .out .now) (t .last .1 .1 .0) (l .last .1 .1 .0) _ (t .result) (l .result) (e .if1 .left) (part-digits (n .result) (r .bytes) (r .from) (d .decimal .ensures)) (t .ensures .0) (t .ensures .1) (l .ensures .0) (l .ensures .1)
+    refused-made (a .refusal) (n .result) (r .bytes) (r .from) (n .ensures) (d .decimal .ensures) (a .out .now) (t .last .1 .1 .0) (l .last .1 .1 .0) _ (t .result) (l .result) (e .if1 .left) (t .ensures .0) (t .ensures .1) (part-digits (n .result) (r .bytes) (r .from) (d .decimal .ensures)) (l .ensures .0) (l .ensures .1)
 
 pub refused-line-spec : {M : Type 1} → statement M
 refused-line-spec =
