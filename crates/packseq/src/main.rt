@@ -54,6 +54,7 @@ fn put_output(text: &[u8], out: &mut [u8]) -> usize
     let mut packed = [0u8; LONGEST];
     let answer = coder::encode_sequence(kind.number(), text, &mut packed);
     let Encoded::Wrote(count) = answer else {
+        // an answer is one of the two, so nothing is left to print here
         let Encoded::Refused(refusal) = answer else {
             return 0;
         };
