@@ -1,0 +1,157 @@
+//! The six alphabets, and the guess of a text's alphabet.
+
+use crate::error::accepted;
+use crate::{raw, Error, Result};
+use std::fmt;
+
+/// The six alphabets in the order of their numbers, 0 to 5.
+///
+/// ```
+/// use fantailclock::Alphabet;
+///
+/// let alphabet = Alphabet::try_from(1)?;
+/// assert_eq!(alphabet, Alphabet::Dna3bit);
+/// assert_eq!(alphabet.to_string(), "dna3bit");
+/// assert_eq!(alphabet.bits_per_symbol(), 3);
+/// assert!(alphabet.contains(b'N') && !alphabet.contains(b'n'));
+/// assert_eq!(Alphabet::try_from(6).unwrap_err().number(), 8);
+/// # Ok::<(), fantailclock::Error>(())
+/// ```
+#[derive(Clone, Copy, Debug, PartialEq, Eq, PartialOrd, Ord, Hash)]
+#[repr(u64)]
+pub enum Alphabet {
+    /// T C A G in 2 bits, in the layout that UCSC publishes.
+    Dna2bit = 0,
+    /// A C G T N R Y U in 3 bits.
+    Dna3bit = 1,
+    /// The IUPAC letters in 4 bits.
+    DnaIupac = 2,
+    /// Amino acids in 5 bits.
+    Protein = 3,
+    /// Any byte, as itself.
+    Ascii = 4,
+    /// Any byte, as itself; never guessed.
+    Unknown = 5,
+}
+
+impl Alphabet {
+    /// Every alphabet, in the order of the numbers.
+    pub const ALL: [Alphabet; 6] = [
+        Alphabet::Dna2bit,
+        Alphabet::Dna3bit,
+        Alphabet::DnaIupac,
+        Alphabet::Protein,
+        Alphabet::Ascii,
+        Alphabet::Unknown,
+    ];
+
+    /// The number that names the alphabet to the library.
+    pub fn number(self) -> u64 {
+        self as u64
+    }
+
+    /// The bits of one symbol's code: 2, 3, 4, 5, 8, 8.
+    pub fn bits_per_symbol(self) -> u64 {
+        // SAFETY: only numbers are passed.
+        known(unsafe { raw::fc_bits_per_symbol(self.number()) })
+    }
+
+    /// Whether the byte is a symbol of the alphabet.
+    pub fn contains(self, byte: u8) -> bool {
+        // SAFETY: only numbers are passed.
+        known(unsafe { raw::fc_contains(self.number(), u64::from(byte)) }) == 1
+    }
+}
+
+/// The value of a call about an alphabet that there is.
+fn known(answer: raw::Number) -> u64 {
+    accepted(answer.refusal, 0, 0).expect("the alphabet is one of the six");
+    answer.value
+}
+
+impl TryFrom<u64> for Alphabet {
+    type Error = Error;
+
+    fn try_from(number: u64) -> Result<Alphabet> {
+        Alphabet::ALL.into_iter().find(|alphabet| alphabet.number() == number).ok_or(Error::NoAlphabet)
+    }
+}
+
+/// The display name: dna2bit, dna3bit, dnaio, protein, ASCII or Unknown.
+impl fmt::Display for Alphabet {
+    fn fmt(&self, f: &mut fmt::Formatter<'_>) -> fmt::Result {
+        let mut name = [0; 8];
+        // SAFETY: the memory is lent with its length.
+        let answer = unsafe { raw::fc_display_name(self.number(), name.as_mut_ptr(), name.len()) };
+        accepted(answer.refusal, 0, 0).expect("a name has at most 7 bytes");
+        f.pad(std::str::from_utf8(&name[..answer.count as usize]).expect("names are ASCII"))
+    }
+}
+
+/// The guess of a text's alphabet, piece by piece: the first of Dna2bit, Dna3bit, DnaIupac, Protein and Ascii that holds
+/// every byte seen.
+///
+/// ```
+/// use fantailclock::{Alphabet, Guesser};
+///
+/// let mut guesser = Guesser::new();
+/// guesser.update(b"ACGT")?;
+/// assert_eq!(guesser.guess()?, Alphabet::Dna2bit);
+/// guesser.update(b"U")?;
+/// assert_eq!(guesser.guess()?, Alphabet::Dna3bit);
+/// # Ok::<(), fantailclock::Error>(())
+/// ```
+#[derive(Clone, Debug, PartialEq, Eq)]
+pub struct Guesser {
+    state: raw::Guesser,
+}
+
+impl Guesser {
+    /// A guesser that has seen nothing.
+    #[allow(clippy::new_without_default)] // as in the library, `new` is the one way to start
+    pub fn new() -> Guesser {
+        // SAFETY: nothing is passed.
+        Guesser { state: unsafe { raw::fc_guesser_new() } }
+    }
+
+    /// A guesser that goes on from a state that was kept; a state that is not sound is refused by the calls.
+    pub fn from_raw(state: raw::Guesser) -> Guesser {
+        Guesser { state }
+    }
+
+    /// The state, to be kept.
+    pub fn to_raw(&self) -> raw::Guesser {
+        self.state
+    }
+
+    /// Takes one more piece of the text. Refuses an unsound state, which `new` never leaves.
+    pub fn update(&mut self, text: &[u8]) -> Result<()> {
+        // SAFETY: the text is lent with its length.
+        let answer = unsafe { raw::fc_guesser_update(self.state, text.as_ptr(), text.len()) };
+        accepted(answer.refusal, 0, 0)?;
+        self.state = answer.next;
+        Ok(())
+    }
+
+    /// The guess for what was seen; Dna2bit for no bytes. Refuses an unsound state, which `new` never leaves.
+    pub fn guess(&self) -> Result<Alphabet> {
+        // SAFETY: only a number is passed.
+        let answer = unsafe { raw::fc_guesser_guess(self.state) };
+        accepted(answer.refusal, 0, 0)?;
+        Alphabet::try_from(answer.value)
+    }
+}
+
+/// The guess for a whole text.
+///
+/// ```
+/// use fantailclock::{guess_alphabet, Alphabet};
+///
+/// assert_eq!(guess_alphabet(b"ACGTS"), Alphabet::DnaIupac);
+/// assert_eq!(guess_alphabet(b"acgt"), Alphabet::Ascii);
+/// ```
+pub fn guess_alphabet(text: &[u8]) -> Alphabet {
+    // SAFETY: the text is lent with its length.
+    let answer = unsafe { raw::fc_guess_alphabet(text.as_ptr(), text.len()) };
+    Alphabet::try_from(known(answer)).expect("a guess is one of the six")
+}

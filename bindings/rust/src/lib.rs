@@ -1,0 +1,47 @@
+//! Fantailclock: packed alphabets and their coders, a safe layer over the C ABI of the proved library.
+//!
+//! - [`Alphabet`], [`guess_alphabet`] and [`Guesser`]: the six alphabets and the guess of a text's.
+//! - [`encode_sequence`] and [`SequenceEncoder`]: packing, whole or in pieces.
+//! - [`byte_range_for_bases`] and [`decode_covered`]: the bytes to fetch for a window, and its bases.
+//! - [`StreamingDecoder`] and [`Stream`]: a window from bytes as they come.
+//!
+//! A plain name gives a `Vec`; the name with `_into` writes to the front of memory that the caller lends, answers the
+//! count, and leaves every other byte as it was. A call that is refused says why ([`Error`], with the rules' number) and
+//! has changed nothing. Nothing is global: any thread may call anything.
+//!
+//! ```
+//! use fantailclock::{byte_range_for_bases, decode_covered, encode_sequence, guess_alphabet};
+//!
+//! let text = b"ACGTNRYU";
+//! let alphabet = guess_alphabet(text);
+//! let packed = encode_sequence(alphabet, text)?;
+//! let range = byte_range_for_bases(2, 6, alphabet.bits_per_symbol())?;
+//! let fetched = &packed[range.start as usize..range.end as usize];
+//! assert_eq!(decode_covered(alphabet, fetched, range.start, 2, 6)?, b"GTNR");
+//! # Ok::<(), fantailclock::Error>(())
+//! ```
+
+#![deny(warnings, missing_docs)]
+
+mod alphabet;
+mod error;
+mod memory;
+mod packing;
+pub mod raw;
+mod streaming;
+mod windows;
+
+pub use alphabet::{guess_alphabet, Alphabet, Guesser};
+pub use error::{Error, Result};
+pub use packing::{byte_range_for_bases, encode_sequence, encode_sequence_into, SequenceEncoder};
+pub use streaming::{Status, Stream, Streamed, StreamingDecoder};
+pub use windows::*;
+
+/// The version of the C ABI's structs that this crate was written for.
+pub const ABI_VERSION: u64 = 1;
+
+/// The version of the C ABI's structs that the linked archive has.
+pub fn abi_version() -> u64 {
+    // SAFETY: nothing is passed.
+    unsafe { raw::fc_abi_version() }
+}

@@ -1,0 +1,84 @@
+//! The C ABI as it is: the structs and functions of include/fantailclock.h, under the same names.
+//!
+//! Every number is 64 bits wide; structs go in and come back by value, and a host may forge any of them: each call tests
+//! the state that it is handed. A pointer with a length names memory that the caller owns; it must not be null, even for
+//! a length of 0, and input and output memory of one call must not overlap.
+
+macro_rules! structs {
+    ($($(#[$about:meta])* $name:ident { $($field:ident: $kind:ty),* })*) => {$(
+        $(#[$about])*
+        #[repr(C)]
+        #[derive(Clone, Copy, Debug, Default, PartialEq, Eq, Hash)]
+        #[allow(missing_docs)]
+        pub struct $name { $(pub $field: $kind),* }
+    )*};
+}
+
+structs! {
+    /// `fc_number`
+    Number { refusal: u64, value: u64 }
+    /// `fc_count`
+    Count { refusal: u64, count: u64 }
+    /// `fc_range`
+    Range { refusal: u64, start: u64, end: u64 }
+    /// `fc_packed`
+    Packed { refusal: u64, count: u64, position: u64, byte: u64 }
+
+    /// `fc_guesser`: the mask of the alphabets that hold every byte seen; 16 to 31.
+    Guesser { mask: u64 }
+    /// `fc_guessing`
+    Guessing { refusal: u64, next: Guesser }
+
+    /// `fc_encoder`: symbols seen; bits that fill no byte yet and their value; whether a byte was no member, and the
+    /// first such byte's position over all pieces and its value (ignored where `has_bad` is 0).
+    Encoder { alphabet: u64, seen: u64, pending_bits: u64, pending: u64, has_bad: u64, bad_position: u64, bad_byte: u64 }
+    /// `fc_encoder_started`
+    EncoderStarted { refusal: u64, next: Encoder }
+    /// `fc_updated`
+    Updated { refusal: u64, count: u64, next: Encoder }
+
+    /// `fc_stream`: bits still to be passed over, bases still to come, bits taken and not used and their value.
+    Stream { alphabet: u64, skip: u64, budget: u64, pending_bits: u64, pending: u64 }
+    /// `fc_stream_started`
+    StreamStarted { refusal: u64, next: Stream }
+    /// `fc_streamed`: status 1 Hungry, 2 Done, 3 Full; 0 on a refusal.
+    Streamed { refusal: u64, taken: u64, written: u64, status: u64, next: Stream }
+    /// `fc_ended`
+    Ended { refusal: u64, outstanding: u64 }
+}
+
+/// A window read that takes alphabet, lent bytes, byte_offset, start and end.
+pub type Window = unsafe extern "C" fn(u64, *const u8, usize, u64, u64, u64, *mut u8, usize) -> Count;
+/// An engine that serves one alphabet.
+pub type Engine = unsafe extern "C" fn(*const u8, usize, u64, u64, u64, *mut u8, usize) -> Count;
+
+#[rustfmt::skip]
+#[allow(missing_docs)] // the header says what each does
+extern "C" {
+    pub fn fc_abi_version() -> u64;
+    pub fn fc_bits_per_symbol(alphabet: u64) -> Number;
+    pub fn fc_contains(alphabet: u64, byte: u64) -> Number;
+    pub fn fc_display_name(alphabet: u64, out: *mut u8, room: usize) -> Count;
+    pub fn fc_guesser_new() -> Guesser;
+    pub fn fc_guesser_update(state: Guesser, text: *const u8, len: usize) -> Guessing;
+    pub fn fc_guesser_guess(state: Guesser) -> Number;
+    pub fn fc_guess_alphabet(text: *const u8, len: usize) -> Number;
+
+    pub fn fc_encoder_new(alphabet: u64) -> EncoderStarted;
+    pub fn fc_encoder_update(state: Encoder, piece: *const u8, len: usize, out: *mut u8, room: usize) -> Updated;
+    pub fn fc_encoder_finalize(state: Encoder, out: *mut u8, room: usize) -> Packed;
+    pub fn fc_encode_sequence(alphabet: u64, text: *const u8, len: usize, out: *mut u8, room: usize) -> Packed;
+    pub fn fc_byte_range_for_bases(start: u64, end: u64, bits: u64) -> Range;
+
+    pub fn fc_decode_substring_from_bytes_at_offset(alphabet: u64, bytes: *const u8, len: usize, byte_offset: u64, start: u64, end: u64, out: *mut u8, room: usize) -> Count;
+    pub fn fc_decode_substring_from_bytes(alphabet: u64, bytes: *const u8, len: usize, start: u64, end: u64, out: *mut u8, room: usize) -> Count;
+    pub fn fc_decode_string_from_bytes(alphabet: u64, bytes: *const u8, len: usize, seq_len: u64, out: *mut u8, room: usize) -> Count;
+    pub fn fc_decode_covered(alphabet: u64, bytes: *const u8, len: usize, byte_offset: u64, start: u64, end: u64, out: *mut u8, room: usize) -> Count;
+    pub fn fc_decode_rolling(alphabet: u64, bytes: *const u8, len: usize, byte_offset: u64, start: u64, end: u64, out: *mut u8, room: usize) -> Count;
+    pub fn fc_decode_2bit(bytes: *const u8, len: usize, byte_offset: u64, start: u64, end: u64, out: *mut u8, room: usize) -> Count;
+    pub fn fc_decode_3bit(bytes: *const u8, len: usize, byte_offset: u64, start: u64, end: u64, out: *mut u8, room: usize) -> Count;
+
+    pub fn fc_stream_new(alphabet: u64, skip: u64, budget: u64) -> StreamStarted;
+    pub fn fc_stream_read(state: Stream, source: *const u8, len: usize, out: *mut u8, room: usize) -> Streamed;
+    pub fn fc_stream_end(state: Stream) -> Ended;
+}

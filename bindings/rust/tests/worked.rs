@@ -1,0 +1,182 @@
+//! The worked table of the rules, every row, through the safe functions.
+
+mod support;
+
+use fantailclock::*;
+use support::table::{bytes, hex, number, rows, text, WORKED};
+
+/// A refusal with its values, as the table writes it.
+fn refused(refusal: Error) -> String {
+    match refusal {
+        Error::NotMember { position, byte } => format!("refused 5 {position} {byte:02X}"),
+        Error::Outstanding { bases } => format!("refused 7 {bases}"),
+        other => format!("refused {}", other.number()),
+    }
+}
+
+/// What a call that writes to memory of `room` bytes wrote, or its refusal.
+fn written(room: usize, show: fn(&[u8]) -> String, call: impl FnOnce(&mut [u8]) -> Result<usize>) -> String {
+    let mut out = vec![0; room];
+    call(&mut out).map_or_else(refused, |count| show(&out[..count]))
+}
+
+fn bases(bases: &[u8]) -> String {
+    String::from_utf8(bases.to_vec()).unwrap()
+}
+
+fn pack(alphabet: Alphabet, words: &[&'static str]) -> Vec<String> {
+    let text = text(words[0]);
+    let lent = written(9, hex, |out| encode_sequence_into(alphabet, text, out));
+    vec![lent, encode_sequence(alphabet, text).map_or_else(refused, |packed| hex(&packed))]
+}
+
+fn update(alphabet: Alphabet, words: &[&'static str]) -> Vec<String> {
+    let lent = written(9, hex, |out| SequenceEncoder::new(alphabet).update_into(text(words[0]), out));
+    vec![lent, hex(&SequenceEncoder::new(alphabet).update(text(words[0])).unwrap())]
+}
+
+fn finalize(alphabet: Alphabet, words: &[&'static str]) -> Vec<String> {
+    let mut encoder = SequenceEncoder::new(alphabet);
+    encoder.update(text(words[0])).unwrap();
+    let lent = written(9, hex, |out| encoder.finalize_into(out));
+    vec![lent, encoder.finalize().map_or_else(refused, |last| hex(&last))]
+}
+
+/// The answers of every zero-filling read and engine that serves the call.
+fn read(alphabet: Alphabet, words: &[&'static str]) -> Vec<String> {
+    let lent = bytes(words[0]);
+    let numbers: Vec<u64> = words[1..].iter().map(|word| number(word)).collect();
+    let (offset, start, end, room) = (numbers[0], numbers[1], numbers[2], numbers[3] as usize);
+    let mut answers = vec![
+        written(room, bases, |out| {
+            decode_substring_from_bytes_at_offset_into(alphabet, &lent, offset, start, end, out)
+        }),
+        written(room, bases, |out| decode_rolling_into(alphabet, &lent, offset, start, end, out)),
+    ];
+    if offset == 0 {
+        answers.push(written(room, bases, |out| decode_substring_from_bytes_into(alphabet, &lent, start, end, out)));
+    }
+    if offset == 0 && start == 0 {
+        answers.push(written(room, bases, |out| decode_string_from_bytes_into(alphabet, &lent, end, out)));
+    }
+    match alphabet {
+        Alphabet::Dna2bit => answers.push(written(room, bases, |out| decode_2bit_into(&lent, offset, start, end, out))),
+        Alphabet::Dna3bit => answers.push(written(room, bases, |out| decode_3bit_into(&lent, offset, start, end, out))),
+        _ => {}
+    }
+    answers
+}
+
+fn covered(alphabet: Alphabet, words: &[&'static str]) -> Vec<String> {
+    let lent = bytes(words[0]);
+    let numbers: Vec<u64> = words[1..].iter().map(|word| number(word)).collect();
+    let (offset, start, end, room) = (numbers[0], numbers[1], numbers[2], numbers[3] as usize);
+    vec![
+        written(room, bases, |out| decode_covered_into(alphabet, &lent, offset, start, end, out)),
+        decode_covered(alphabet, &lent, offset, start, end).map_or_else(refused, |read| bases(&read)),
+    ]
+}
+
+fn streamed(alphabet: Alphabet, words: &[&'static str]) -> Streamed {
+    let stream = Stream::new(alphabet, number(words[0]), number(words[1])).unwrap();
+    stream.read(&bytes(words[2]), &mut vec![0; number(words[3]) as usize]).unwrap()
+}
+
+fn stream(alphabet: Alphabet, words: &[&'static str]) -> Vec<String> {
+    let step = streamed(alphabet, words);
+    vec![format!("{} {} {:?}", step.taken, step.written, step.status)]
+}
+
+fn end(alphabet: Alphabet, words: &[&'static str]) -> Vec<String> {
+    vec![streamed(alphabet, words).next.end().map_or_else(refused, |()| String::from("complete"))]
+}
+
+fn guess(words: &[&'static str]) -> Vec<String> {
+    let mut guesser = Guesser::new();
+    text(words[0]).chunks(1).for_each(|byte| guesser.update(byte).unwrap());
+    vec![format!("{:?}", guess_alphabet(text(words[0]))), format!("{:?}", guesser.guess().unwrap())]
+}
+
+fn range(words: &[&'static str]) -> Vec<String> {
+    let numbers: Vec<u64> = words.iter().map(|word| number(word)).collect();
+    let answer = byte_range_for_bases(numbers[0], numbers[1], numbers[2]);
+    vec![answer.map_or_else(refused, |range| format!("{} {}", range.start, range.end))]
+}
+
+/// The call for each alphabet that its first word names.
+fn each(words: &[&'static str], call: fn(Alphabet, &[&'static str]) -> Vec<String>) -> Vec<String> {
+    let named = |alphabet: &Alphabet| words[0] == "*" || words[0] == format!("{alphabet:?}");
+    Alphabet::ALL.into_iter().filter(named).flat_map(|alphabet| call(alphabet, &words[1..])).collect()
+}
+
+fn answers(words: &[&'static str]) -> Vec<String> {
+    let arguments = &words[1..];
+    match words[0] {
+        "pack" => each(arguments, pack),
+        "update" => each(arguments, update),
+        "finalize" => each(arguments, finalize),
+        "read" => each(arguments, read),
+        "covered" => each(arguments, covered),
+        "stream" => each(arguments, stream),
+        "end" => each(arguments, end),
+        "guess" => guess(arguments),
+        "range" => range(arguments),
+        other => panic!("no such call: {other}"),
+    }
+}
+
+#[test]
+fn every_row_of_the_worked_table() {
+    let rows = rows(WORKED);
+    assert_eq!(rows.len(), 29);
+    for row in rows {
+        let answers = answers(&row.words);
+        assert!(!answers.is_empty(), "asked of nothing: {}", row.line);
+        for answer in answers {
+            assert_eq!(answer, row.answer, "{}", row.line);
+        }
+    }
+}
+
+#[test]
+fn names_numbers_and_bits() {
+    let names = ["dna2bit", "dna3bit", "dnaio", "protein", "ASCII", "Unknown"];
+    for (number, alphabet) in Alphabet::ALL.into_iter().enumerate() {
+        assert_eq!(alphabet.number(), number as u64);
+        assert_eq!(Alphabet::try_from(number as u64), Ok(alphabet));
+        assert_eq!(alphabet.to_string(), names[number]);
+        assert_eq!(alphabet.bits_per_symbol(), support::model::bits(alphabet));
+        for byte in 0..=255 {
+            assert_eq!(alphabet.contains(byte), support::model::contains(alphabet, byte), "{alphabet} {byte}");
+        }
+    }
+    assert_eq!(Alphabet::try_from(6), Err(Error::NoAlphabet));
+    assert_eq!(Alphabet::try_from(1 << 32), Err(Error::NoAlphabet));
+    assert_eq!(abi_version(), ABI_VERSION);
+}
+
+#[test]
+fn refusals_by_number() {
+    let by_number = [
+        (byte_range_for_bases(0, (1 << 60) + 1, 2).unwrap_err(), 2, "refused by 2: position above 2^60"),
+        (decode_covered(Alphabet::Ascii, &[], 0, 0, 1).unwrap_err(), 3, "refused by 3: bytes of the range not lent"),
+        (encode_sequence_into(Alphabet::Ascii, b"A", &mut []).unwrap_err(), 4, "refused by 4: output memory too short"),
+        (
+            encode_sequence(Alphabet::Dna2bit, b"ACNT").unwrap_err(),
+            5,
+            "refused by 5: byte 4E at position 2 is no member",
+        ),
+        (Stream::new(Alphabet::Ascii, 8, 0).unwrap_err(), 6, "refused by 6: skip above 7"),
+        (
+            Stream::new(Alphabet::Ascii, 0, 9).unwrap().end().unwrap_err(),
+            7,
+            "refused by 7: stream not complete, 9 bases outstanding",
+        ),
+        (Alphabet::try_from(6).unwrap_err(), 8, "refused by 8: no such alphabet"),
+        (byte_range_for_bases(0, 0, 9).unwrap_err(), 9, "refused by 9: more than 8 bits"),
+        (Guesser::from_raw(raw::Guesser { mask: 0 }).guess().unwrap_err(), 1, "refused by 1: unsound state"),
+    ];
+    for (refusal, number, shown) in by_number {
+        assert_eq!((refusal.number(), refusal.to_string()), (number, shown.to_string()));
+    }
+}
