@@ -27,6 +27,7 @@ pub const PLACES: [Place; 2] = [Place::Front, Place::Back];
 pub struct Guarded {
     page: *mut u8,
     len: usize,
+    allowed: c_int,
 }
 
 impl Guarded {
@@ -36,15 +37,16 @@ impl Guarded {
             let len = getpagesize() as usize;
             let at = mmap(std::ptr::null_mut(), 3 * len, NOTHING, PRIVATE_ANONYMOUS, -1, 0);
             assert_ne!(at as isize, -1, "mmap");
-            let guarded = Guarded { page: at.cast::<u8>().add(len), len };
-            guarded.allow(READING_AND_WRITING);
-            guarded
+            Guarded { page: at.cast::<u8>().add(len), len, allowed: NOTHING }
         }
     }
 
-    fn allow(&self, allowed: c_int) {
-        // SAFETY: the page is this struct's own.
-        assert_eq!(unsafe { mprotect(self.page.cast(), self.len, allowed) }, 0, "mprotect");
+    fn allow(&mut self, allowed: c_int) {
+        if self.allowed != allowed {
+            // SAFETY: the page is this struct's own.
+            assert_eq!(unsafe { mprotect(self.page.cast(), self.len, allowed) }, 0, "mprotect");
+            self.allowed = allowed;
+        }
     }
 
     /// The whole page between the guards, open for writing.
@@ -79,6 +81,9 @@ impl Guarded {
     }
 }
 
+/// A call of an entry point: input, output memory, and the count that it answers.
+pub type Call<'a> = &'a dyn Fn(&[u8], &mut [u8]) -> Result<usize>;
+
 /// A call with what it is lent and what must come of it.
 pub struct Case<'a> {
     pub entry: &'static str,
@@ -87,7 +92,7 @@ pub struct Case<'a> {
     pub room: usize,
     /// The bytes at the front of the memory afterwards, which the call counts, or the refusal.
     pub expected: Result<Vec<u8>>,
-    pub call: &'a dyn Fn(&[u8], &mut [u8]) -> Result<usize>,
+    pub call: Call<'a>,
 }
 
 /// Makes calls with all memory against guard pages.

@@ -1,0 +1,339 @@
+//! Every entry point that is lent memory, with that memory against guard pages: a byte read or written outside it, or
+//! written to the input, stops the process. Answers and all bytes are compared with the model's.
+
+mod support;
+
+use fantailclock::*;
+use std::os::unix::process::ExitStatusExt;
+use std::process::Command;
+use support::guard::{Case, Guarded, Harness, Place};
+use support::model;
+use support::random::Random;
+
+const HEADER: &str = include_str!("../../../include/fantailclock.h");
+
+/// Lengths around every block and word, and those that fill a page.
+fn lengths() -> impl Iterator<Item = usize> {
+    (0..=72).chain([4095, 4096])
+}
+
+/// Memory that is a byte short, just enough, and more than enough for so many bytes.
+fn rooms(needed: usize) -> Vec<usize> {
+    let rooms = [needed.wrapping_sub(1), needed, needed + 1, needed + 9];
+    rooms.into_iter().filter(|&room| room <= 4096).collect()
+}
+
+/// The bytes where the memory has room for them, else refusal 4.
+fn fitting(bytes: &[u8], room: usize) -> Result<Vec<u8>> {
+    if room < bytes.len() {
+        Err(Error::ShortMemory)
+    } else {
+        Ok(bytes.to_vec())
+    }
+}
+
+fn texts(harness: &mut Harness, alphabet: Alphabet, text: &[u8]) {
+    let packed = model::pack(alphabet, text);
+    for room in rooms(packed.len()) {
+        harness.check(&Case {
+            entry: "fc_encode_sequence",
+            about: format!("{alphabet}, {} bytes", text.len()),
+            input: text,
+            room,
+            expected: fitting(&packed, room),
+            call: &|text, out| encode_sequence_into(alphabet, text, out),
+        });
+    }
+    let guess = model::guess(text);
+    for (entry, whole) in [("fc_guess_alphabet", true), ("fc_guesser_update", false)] {
+        harness.check(&Case {
+            entry,
+            about: format!("{} bytes", text.len()),
+            input: text,
+            room: 0,
+            expected: Ok(vec![]),
+            call: &|text, _| {
+                let mut guesser = Guesser::new();
+                guesser.update(text)?;
+                assert_eq!(if whole { guess_alphabet(text) } else { guesser.guess()? }, guess);
+                Ok(0)
+            },
+        });
+    }
+}
+
+/// A text whose last byte is the first non-member, and one whose first and last are none.
+fn strangers(harness: &mut Harness, alphabet: Alphabet, text: &[u8]) {
+    if text.is_empty() || model::contains(alphabet, b'a') {
+        return;
+    }
+    for position in [text.len() - 1, 0] {
+        let mut text = text.to_vec();
+        *text.last_mut().unwrap() = b'a';
+        text[position] = b'a';
+        harness.check(&Case {
+            entry: "fc_encode_sequence",
+            about: format!("{alphabet}, {} bytes, byte {position} is no member", text.len()),
+            input: &text,
+            room: text.len(),
+            expected: Err(Error::NotMember { position: position as u64, byte: b'a' }),
+            call: &|text, out| encode_sequence_into(alphabet, text, out),
+        });
+    }
+}
+
+/// An update behind so many symbols, and the last byte after it.
+fn pieces(harness: &mut Harness, alphabet: Alphabet, text: &[u8], before: usize) {
+    let width = model::bits(alphabet) as usize;
+    let (first, piece) = text.split_at(before.min(text.len()));
+    let mut encoder = SequenceEncoder::new(alphabet);
+    encoder.update(first).unwrap();
+    let packed = model::pack(alphabet, text);
+    let (from, to) = (first.len() * width / 8, text.len() * width / 8);
+    for room in rooms(to - from) {
+        harness.check(&Case {
+            entry: "fc_encoder_update",
+            about: format!("{alphabet}, {} bytes behind {before}", piece.len()),
+            input: piece,
+            room,
+            expected: fitting(&packed[from..to], room),
+            call: &|piece, out| encoder.clone().update_into(piece, out),
+        });
+    }
+    encoder.update(piece).unwrap();
+    for room in rooms(packed.len() - to) {
+        harness.check(&Case {
+            entry: "fc_encoder_finalize",
+            about: format!("{alphabet}, {} bytes", text.len()),
+            input: &[],
+            room,
+            expected: fitting(&packed[to..], room),
+            call: &|_, out| encoder.finalize_into(out),
+        });
+    }
+}
+
+type Read = fn(Alphabet, &[u8], u64, u64, u64, &mut [u8]) -> Result<usize>;
+
+/// The reads with one shape; each takes the windows for which it is there.
+fn reads(alphabet: Alphabet, offset: u64, start: u64) -> Vec<(&'static str, Read)> {
+    let mut reads: Vec<(&'static str, Read)> = vec![
+        ("fc_decode_substring_from_bytes_at_offset", decode_substring_from_bytes_at_offset_into),
+        ("fc_decode_rolling", decode_rolling_into),
+    ];
+    if offset == 0 {
+        reads.push(("fc_decode_substring_from_bytes", |alphabet, bytes, _, start, end, out| {
+            decode_substring_from_bytes_into(alphabet, bytes, start, end, out)
+        }));
+    }
+    if offset == 0 && start == 0 {
+        reads.push(("fc_decode_string_from_bytes", |alphabet, bytes, _, _, end, out| {
+            decode_string_from_bytes_into(alphabet, bytes, end, out)
+        }));
+    }
+    match alphabet {
+        Alphabet::Dna2bit => reads.push(("fc_decode_2bit", |_, bytes, offset, start, end, out| {
+            decode_2bit_into(bytes, offset, start, end, out)
+        })),
+        Alphabet::Dna3bit => reads.push(("fc_decode_3bit", |_, bytes, offset, start, end, out| {
+            decode_3bit_into(bytes, offset, start, end, out)
+        })),
+        _ => {}
+    }
+    reads
+}
+
+/// A window of a file by every read, lent a run of the file's bytes.
+fn window(harness: &mut Harness, alphabet: Alphabet, file: &[u8], lent: (usize, usize), window: (u64, u64)) {
+    let ((from, to), (start, end)) = (lent, window);
+    let (bytes, offset) = (&file[from..to], from as u64);
+    let width = model::bits(alphabet);
+    let bases = model::unpack(alphabet, bytes, offset, start, end);
+    let about = format!("{alphabet}, bases {start} to {end} of bytes {from} to {to}");
+    for room in rooms(bases.len()) {
+        for (entry, read) in reads(alphabet, offset, start) {
+            harness.check(&Case {
+                entry,
+                about: about.clone(),
+                input: bytes,
+                room,
+                expected: fitting(&bases, room),
+                call: &|bytes, out| read(alphabet, bytes, offset, start, end, out),
+            });
+        }
+        let covers = start >= end || from as u64 <= start * width / 8 && (end * width + 7) / 8 <= to as u64;
+        harness.check(&Case {
+            entry: "fc_decode_covered",
+            about: about.clone(),
+            input: bytes,
+            room,
+            expected: if covers { fitting(&bases, room) } else { Err(Error::Uncovered) },
+            call: &|bytes, out| decode_covered_into(alphabet, bytes, offset, start, end, out),
+        });
+    }
+}
+
+/// The first status that holds.
+fn status(skip_due: bool, budget_used: bool, memory_used: bool) -> Status {
+    match (skip_due, budget_used, memory_used) {
+        (false, true, _) => Status::Done,
+        (false, false, true) => Status::Full,
+        _ => Status::Hungry,
+    }
+}
+
+/// A window of a file by a stream, lent a part of its bytes and memory for a part of its bases.
+fn stream(harness: &mut Harness, alphabet: Alphabet, file: &[u8], (start, end): (u64, u64)) {
+    let width = model::bits(alphabet);
+    let (skip, budget) = (start * width % 8, end - start);
+    let (from, to) = ((start * width / 8) as usize, ((end * width + 7) / 8) as usize);
+    let bases = model::unpack(alphabet, file, 0, start, end);
+    for source in [&file[from..to], &file[from..(from + to) / 2], &file[from..to.max(from + 1) - 1], &file[from..]] {
+        let bits = (source.len() as u64 * 8).saturating_sub(skip);
+        for room in rooms(bases.len()) {
+            let written = budget.min(room as u64).min(bits / width);
+            harness.check(&Case {
+                entry: "fc_stream_read",
+                about: format!("{alphabet}, bases {start} to {end}, {} bytes of source", source.len()),
+                input: source,
+                room,
+                expected: Ok(bases[..written as usize].to_vec()),
+                call: &|source, out| {
+                    let step = Stream::new(alphabet, skip, budget)?.read(source, out)?;
+                    let due = source.is_empty() && skip > 0;
+                    assert_eq!(step.taken as u64, if due { 0 } else { (skip + written * width + 7) / 8 });
+                    assert_eq!(step.status, status(due, written == budget, written == out.len() as u64));
+                    Ok(step.written)
+                },
+            });
+        }
+    }
+}
+
+#[test]
+fn texts_and_pieces() {
+    let mut harness = Harness::new();
+    let mut random = Random(1);
+    for alphabet in Alphabet::ALL {
+        for len in lengths() {
+            let text = random.members(alphabet, len);
+            texts(&mut harness, alphabet, &text);
+            strangers(&mut harness, alphabet, &text);
+            for before in 0..9 {
+                pieces(&mut harness, alphabet, &text, before);
+            }
+        }
+    }
+    println!("{} calls between guard pages", harness.calls);
+}
+
+#[test]
+fn windows_and_streams() {
+    let mut harness = Harness::new();
+    let mut random = Random(2);
+    for alphabet in Alphabet::ALL {
+        for len in lengths() {
+            let n = len as u64;
+            let file = random.bytes(model::packed_len(alphabet, n) as usize); // every bit, spare ones too
+            let start = random.below(n + 1);
+            let random_window = (start, start + random.below(n - start + 1));
+            for (start, end) in [(0, n), (n / 3, n), (n.min(1), n - n.min(1) / 2), (n / 2, n / 2), random_window] {
+                let range = (start * model::bits(alphabet) / 8, (end * model::bits(alphabet) + 7) / 8);
+                let (from, to) = (range.0 as usize, range.1 as usize);
+                // the window's bytes alone, the whole file, a byte too few at either end, no byte
+                for lent in
+                    [(from, to), (0, file.len()), (from, to.max(from + 1) - 1), ((from + 1).min(to), to), (0, 0)]
+                {
+                    window(&mut harness, alphabet, &file, lent, (start, end));
+                }
+                stream(&mut harness, alphabet, &file, (start, end));
+            }
+        }
+    }
+    println!("{} calls between guard pages", harness.calls);
+}
+
+#[test]
+fn names() {
+    let mut harness = Harness::new();
+    let names = ["dna2bit", "dna3bit", "dnaio", "protein", "ASCII", "Unknown"];
+    for (number, name) in names.into_iter().enumerate() {
+        for room in 0..=9 {
+            harness.check(&Case {
+                entry: "fc_display_name",
+                about: name.to_string(),
+                input: &[],
+                room,
+                expected: fitting(name.as_bytes(), room),
+                call: &|_, out| {
+                    let answer = unsafe { raw::fc_display_name(number as u64, out.as_mut_ptr(), out.len()) };
+                    if answer.refusal == 4 {
+                        Err(Error::ShortMemory)
+                    } else {
+                        Ok(answer.count as usize)
+                    }
+                },
+            });
+        }
+    }
+}
+
+#[test]
+fn no_entry_point_is_left_out() {
+    let mut harness = Harness::new();
+    for alphabet in [Alphabet::Dna2bit, Alphabet::Dna3bit] {
+        texts(&mut harness, alphabet, b"ACGT");
+        pieces(&mut harness, alphabet, b"ACGT", 1);
+        window(&mut harness, alphabet, &[7; 2], (0, 2), (0, 4));
+        stream(&mut harness, alphabet, &[7; 2], (0, 4));
+    }
+    harness.entries.push("fc_display_name"); // by the test `names`
+    let name = |line: &str| line.split_once('(').and_then(|(before, _)| before.rsplit(' ').next().map(String::from));
+    let mut lent: Vec<String> = HEADER.lines().filter(|line| line.contains("uint8_t *")).filter_map(name).collect();
+    let mut checked = harness.entries.clone();
+    lent.sort();
+    checked.sort_unstable();
+    assert_eq!(lent, checked);
+}
+
+/// What each child does; every one of them must be stopped.
+const TRESPASSES: [&str; 6] =
+    ["read behind", "read before", "write behind", "write to the input", "a text too long", "memory too long"];
+
+fn trespass(what: &str) {
+    let mut guarded = Guarded::new();
+    let mut other = Guarded::new();
+    let text = other.lend_read_only(Place::Back, b"ACGTACGT");
+    let (front, back) = (guarded.lend(Place::Front, 1).as_mut_ptr(), guarded.lend(Place::Back, 8).as_mut_ptr());
+    // SAFETY: none; that is the point, and the guard pages are to show it.
+    unsafe {
+        match what {
+            "read behind" => _ = back.add(8).read_volatile(),
+            "read before" => _ = front.sub(1).read_volatile(),
+            "write behind" => back.add(8).write_volatile(0),
+            "write to the input" => (text.as_ptr() as *mut u8).write_volatile(0),
+            "a text too long" => _ = raw::fc_encode_sequence(4, text.as_ptr(), 9, front, 4096),
+            "memory too long" => _ = raw::fc_encode_sequence(4, b"ACGTACGTA".as_ptr(), 9, back, 9),
+            other => panic!("no such trespass: {other}"),
+        }
+    }
+}
+
+/// Run by the test below in a process of its own; by itself it does nothing.
+#[test]
+fn trespasser() {
+    if let Ok(what) = std::env::var("TRESPASS") {
+        trespass(&what);
+    }
+}
+
+#[test]
+fn a_trespass_is_noticed() {
+    for what in TRESPASSES {
+        let mut child = Command::new(std::env::current_exe().unwrap());
+        let output = child.args(["--exact", "trespasser"]).env("TRESPASS", what).output().unwrap();
+        assert_eq!(output.status.signal(), Some(11), "{what} was not stopped by the guard page");
+    }
+    let mut child = Command::new(std::env::current_exe().unwrap());
+    assert!(child.args(["--exact", "trespasser"]).output().unwrap().status.success(), "the child fails by itself");
+}
