@@ -156,6 +156,11 @@ impl<R: Read> StreamingDecoder<R> {
         self.stream
     }
 
+    /// The source.
+    pub fn get_ref(&self) -> &R {
+        &self.inner
+    }
+
     /// The source, at the first byte that was not needed.
     pub fn into_inner(self) -> R {
         self.inner
