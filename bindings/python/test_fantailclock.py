@@ -1,0 +1,729 @@
+"""Tests of fantailclock.py: the shared tables of bindings/tables, every entry point between guard pages, the streaming
+decoder, and what Python's own forms could get wrong. Expected values come from the rules or from the slow model below."""
+
+import ctypes
+import doctest
+import io
+import mmap
+import os
+import pathlib
+import random
+import re
+import signal
+import unittest
+
+import fantailclock as fc
+from fantailclock import Alphabet
+
+HERE = pathlib.Path(__file__).resolve().parent
+HEADER = (HERE.parents[1] / "include/fantailclock.h").read_text()
+
+
+# The tables
+
+
+def rows(name):
+    """The rows of a table: line, words of the call, answer."""
+    for line in (HERE.parent / "tables" / name).read_text().splitlines():
+        if line and not line.startswith("#"):
+            call, answer = line.split(" = ")
+            yield line, call.split(), answer.strip()
+
+
+def number(word):
+    """A decimal number, or a power of two with a number added or taken away."""
+    power = re.fullmatch(r"2\^(\d+)([+-]\d+)?", word)
+    return (1 << int(power[1])) + int(power[2] or 0) if power else int(word)
+
+
+def text(word):
+    return b"" if word == "-" else word.encode()
+
+
+# The model: packing and reading bit by bit, from the symbol lists of the rules
+
+LISTS = [b"TCAG", b"ACGTNRYU", b"NACMGRSKTWYUBDHV", b"ACDEFGHIKLMNPQRSTVWY*X-.UBZOJ", bytes(range(256)), bytes(range(256))]
+BITS = [2, 3, 4, 5, 8, 8]
+
+
+def packed_len(alphabet, symbols):
+    return (symbols * BITS[alphabet] + 7) // 8
+
+
+def pack(alphabet, symbols):
+    """The packing of a text, a non-member as ones."""
+    width = BITS[alphabet]
+    codes = "".join(format(LISTS[alphabet].find(symbol) % (1 << width), f"0{width}b") for symbol in symbols)
+    codes += "0" * (-len(codes) % 8)
+    return bytes(int(codes[at : at + 8], 2) for at in range(0, len(codes), 8))
+
+
+def unpack(alphabet, data, offset, start, end):
+    """The bases from start to end of a file of which the data are the bytes from an offset on; other bytes are zero."""
+    width, symbols = BITS[alphabet], LISTS[alphabet]
+    first, last = start * width // 8, (end * width + 7) // 8
+    lent = bytes(data[at - offset] if 0 <= at - offset < len(data) else 0 for at in range(first, last))
+    bits = int.from_bytes(lent, "big")
+    codes = ((bits >> (8 * last - width * (base + 1))) % (1 << width) for base in range(start, end))
+    return bytes(symbols[code] if code < len(symbols) else ord("X") for code in codes)
+
+
+# The worked table
+
+
+def refused(refusal):
+    """A refusal with its values, as the table writes it."""
+    if isinstance(refusal, fc.NotMember):
+        return f"refused 5 {refusal.position} {refusal.byte:02X}"
+    if isinstance(refusal, fc.Outstanding):
+        return f"refused 7 {refusal.bases}"
+    return f"refused {refusal.number}"
+
+
+def told(call):
+    """The answer of a call as text: bytes as `show` has them, or the refusal."""
+    try:
+        return call()
+    except fc.Refused as refusal:
+        return refused(refusal)
+
+
+def written(room, show, call):
+    """What a call that writes to memory of `room` bytes wrote, or its refusal."""
+    out = bytearray(room)
+    return told(lambda: show(out[: call(out)]))
+
+
+def in_hex(data):
+    return data.hex().upper()
+
+
+def bases(data):
+    return data.decode("latin-1")
+
+
+class Worked(unittest.TestCase):
+    """Every row of the worked table. Each method answers one call, by every function that serves it."""
+
+    def pack(self, alphabet, word):
+        yield written(9, in_hex, lambda out: fc.encode_sequence_into(alphabet, text(word), out))
+        yield told(lambda: in_hex(fc.encode_sequence(alphabet, text(word))))
+
+    def update(self, alphabet, word):
+        yield written(9, in_hex, lambda out: fc.SequenceEncoder(alphabet).update_into(text(word), out))
+        yield told(lambda: in_hex(fc.SequenceEncoder(alphabet).update(text(word))))
+
+    def finalize(self, alphabet, word):
+        encoder = fc.SequenceEncoder(alphabet)
+        encoder.update(text(word))
+        yield written(9, in_hex, encoder.finalize_into)
+        yield told(lambda: in_hex(encoder.finalize()))
+
+    def read(self, alphabet, data, *numbers):
+        lent = bytes.fromhex("" if data == "-" else data)
+        offset, start, end, room = map(number, numbers)
+        for _, read in reads(alphabet, offset, start):
+            yield written(room, bases, lambda out, read=read: read(alphabet, lent, offset, start, end, out))
+
+    def covered(self, alphabet, data, *numbers):
+        offset, start, end, room = map(number, numbers)
+        window = alphabet, bytes.fromhex(data), offset, start, end
+        yield written(room, bases, lambda out: fc.decode_covered_into(*window, out))
+        yield told(lambda: bases(fc.decode_covered(*window)))
+
+    def streamed(self, alphabet, skip, budget, source, room):
+        source = bytes.fromhex("" if source == "-" else source)
+        return fc.Stream(alphabet, number(skip), number(budget)).read(source, bytearray(number(room)))
+
+    def stream(self, alphabet, *words):
+        step = self.streamed(alphabet, *words)
+        yield f"{step.taken} {step.written} {step.status.name}"
+
+    def end(self, alphabet, *words):
+        yield told(self.streamed(alphabet, *words).next.end)
+
+    def guess(self, word):
+        guesser = fc.Guesser()
+        for at in range(len(text(word))):
+            guesser.update(text(word)[at : at + 1])
+        yield guesser.guess().name
+        yield fc.guess_alphabet(text(word)).name
+
+    def range(self, *numbers):
+        yield told(lambda: "{} {}".format(*fc.byte_range_for_bases(*map(number, numbers))))
+
+    def answers(self, call, *words):
+        if call in ("guess", "range"):
+            return list(getattr(self, call)(*words))
+        named = [alphabet for alphabet in Alphabet if words[0] in ("*", alphabet.name)]
+        return [answer for alphabet in named for answer in getattr(self, call)(alphabet, *words[1:])]
+
+    def test_every_row(self):
+        count = 0
+        for line, words, expected in rows("worked.txt"):
+            answers = self.answers(*words)
+            self.assertTrue(answers, line)
+            self.assertEqual(answers, [expected] * len(answers), line)
+            count += 1
+        self.assertEqual(count, 29)
+
+    def test_names_numbers_and_bits(self):
+        names = ["dna2bit", "dna3bit", "dnaio", "protein", "ASCII", "Unknown"]
+        self.assertEqual([alphabet.display_name for alphabet in Alphabet], names)
+        self.assertEqual([alphabet.bits_per_symbol for alphabet in Alphabet], BITS)
+        self.assertEqual(list(Alphabet), list(range(6)))
+        for alphabet in Alphabet:
+            members = bytes(byte for byte in range(256) if alphabet.contains(byte))
+            self.assertEqual(members, bytes(sorted(LISTS[alphabet])))
+            self.assertFalse(alphabet.contains(256 + ord("A")))
+
+    def test_the_module_s_example(self):
+        self.assertEqual(doctest.testmod(fc)[0], 0)
+        self.assertGreater(doctest.testmod(fc)[1], 0)
+
+
+# Forged states
+
+PATTERN = b"\xc3" * 8
+
+
+class States(unittest.TestCase):
+    """States that a host forges: one that is refused comes back as it was, with no byte changed."""
+
+    def states(self, kind, struct, count):
+        found = [(line, struct(*map(number, words[1:])), int(answer))
+                 for line, words, answer in rows("states.txt") if words[0] == kind]  # fmt: skip
+        self.assertEqual(len(found), count)
+        return found
+
+    def refusal(self, call):
+        """The number by which a call is refused, 0 if it is not, and its answer."""
+        try:
+            return 0, call()
+        except fc.Refused as refusal:
+            return refusal.number, None
+
+    def test_guessers(self):
+        for line, state, refusal in self.states("guesser", fc.fc_guesser, 11):
+            for piece, mask in (b"", state.mask), (b"ACGT", state.mask), (b"a", state.mask & 16):
+                guesser = fc.Guesser(state=state)
+                self.assertEqual(self.refusal(lambda: guesser.update(piece))[0], refusal, line)
+                self.assertEqual(guesser.state.mask, state.mask if refusal else mask, line)
+            answer = fc.lib.fc_guesser_update(state, ctypes.create_string_buffer(b"a"), 1)
+            self.assertEqual((answer.refusal, answer.next.mask), (refusal, state.mask if refusal else state.mask & 16), line)
+            place = (state.mask & -state.mask).bit_length() - 1
+            guess = self.refusal(fc.Guesser(state=state).guess)
+            self.assertEqual(guess, (refusal, None if refusal else place), line)
+
+    def test_encoders(self):
+        for line, state, refusal in self.states("encoder", fc.fc_encoder, 66):
+            next_state = fc.fc_encoder.from_buffer_copy(state)
+            if not refusal and not state.has_bad:
+                next_state.bad_position = next_state.bad_byte = 0  # ignored, and answered as zeros
+            for call in "update", "update_into":
+                self.update(line, state, b"", call, refusal, next_state)
+                number = refusal or (2 if state.seen == 1 << 60 else 0)
+                if number:
+                    self.update(line, state, b"ACGT", call, number, state)
+            self.last_byte(line, state, refusal)
+
+    def update(self, line, state, piece, call, refusal, next_state):
+        encoder, out = fc.SequenceEncoder(state=state), bytearray(PATTERN)
+        memory = [out] if call == "update_into" else []
+        self.assertEqual(self.refusal(lambda: getattr(encoder, call)(piece, *memory))[0], refusal, line)
+        self.assertEqual(bytes(encoder.state), bytes(next_state), line)
+        self.assertEqual(out, PATTERN, line)
+        lent = (ctypes.c_uint8 * 8).from_buffer(out)
+        answer = fc.lib.fc_encoder_update(state, ctypes.create_string_buffer(piece), len(piece), lent, 8)
+        self.assertEqual((answer.refusal, answer.count, bytes(answer.next)), (refusal, 0, bytes(next_state)), line)
+        self.assertEqual(out, PATTERN, line)
+
+    def last_byte(self, line, state, refusal):
+        """Its refusal; else 5 with the first non-member; else the pending bits with zeros behind them."""
+        out, after, encoder = bytearray(PATTERN), bytearray(PATTERN), fc.SequenceEncoder(state=state)
+        bad = not refusal and state.has_bad == 1
+        expected = (refusal, None) if refusal else (5, None) if bad else (0, int(state.pending_bits > 0))
+        if expected == (0, 1):
+            after[0] = state.pending << (8 - state.pending_bits)
+            self.assertEqual(self.refusal(lambda: encoder.finalize_into(bytearray()))[0], 4, line)
+        self.assertEqual((self.refusal(lambda: encoder.finalize_into(out)), out), (expected, after), line)
+        if bad:
+            with self.assertRaises(fc.NotMember) as caught:
+                encoder.finalize()
+            self.assertEqual((caught.exception.position, caught.exception.byte), (state.bad_position, state.bad_byte))
+
+    def test_streams(self):
+        for line, state, refusal in self.states("stream", fc.fc_stream, 35):
+            stream, out = fc.Stream(state=state), bytearray(PATTERN)
+            number, step = self.refusal(lambda: stream.read(b"", bytearray()))
+            self.assertEqual(number, refusal, line)
+            if refusal:
+                self.assertEqual(self.refusal(lambda: stream.read(b"\xff" * 4, out))[0], refusal, line)
+                lent = (ctypes.c_uint8 * 8).from_buffer(out)
+                answer = fc.lib.fc_stream_read(state, ctypes.create_string_buffer(b"\7"), 1, lent, 8)
+                self.assertEqual(bytes(answer), bytes(fc.fc_streamed(refusal, 0, 0, 0, state)), line)
+                self.assertEqual(out, PATTERN, line)
+            else:
+                # no source and no memory: nothing moves, and the status is the first that holds
+                status = fc.Status.Hungry if state.skip else fc.Status.Full if state.budget else fc.Status.Done
+                self.assertEqual(step[:3], (0, 0, status), line)
+                self.assertEqual(bytes(step.next.state), bytes(state), line)
+            due = 7 if state.skip or state.budget else 0
+            self.assertEqual(self.refusal(stream.end)[0], refusal or due, line)
+            if due and not refusal:
+                with self.assertRaises(fc.Outstanding) as caught:
+                    stream.end()
+                self.assertEqual(caught.exception.bases, state.budget, line)
+
+    def test_refused_starts(self):
+        for alphabet in 6, 256, 1 << 32, (1 << 64) - 1:
+            self.assertEqual(self.refusal(lambda: fc.SequenceEncoder(alphabet))[0], 8)
+            self.assertEqual(self.refusal(lambda: fc.Stream(alphabet, 8, 5))[0], 8)
+        for skip in 8, 255, 256, 1 << 32, (1 << 64) - 1:
+            self.assertEqual(self.refusal(lambda: fc.Stream(0, skip, 5))[0], 6)
+            started = fc.lib.fc_stream_new(3, skip, 5)
+            self.assertEqual(bytes(started), bytes(fc.fc_stream_started(6, fc.fc_stream(3, skip, 5, 0, 0))))
+
+
+# Guard pages
+
+libc = ctypes.CDLL(None, use_errno=True)
+libc.mmap.restype = ctypes.c_void_p
+libc.mmap.argtypes = [ctypes.c_void_p, ctypes.c_size_t, ctypes.c_int, ctypes.c_int, ctypes.c_int, ctypes.c_long]
+libc.mprotect.argtypes = [ctypes.c_void_p, ctypes.c_size_t, ctypes.c_int]
+PAGE = mmap.PAGESIZE
+READ, READ_WRITE = mmap.PROT_READ, mmap.PROT_READ | mmap.PROT_WRITE
+
+
+class Guarded:
+    """A page between two pages that may not be touched."""
+
+    def __init__(self):
+        start = libc.mmap(None, 3 * PAGE, 0, mmap.MAP_PRIVATE | mmap.MAP_ANONYMOUS, -1, 0)
+        assert start != ctypes.c_void_p(-1).value, "mmap"
+        self.page = start + PAGE
+        self.allow(READ_WRITE)
+
+    def allow(self, allowed):
+        assert libc.mprotect(self.page, PAGE, allowed) == 0, "mprotect"
+
+    def place(self, back, length):
+        """Where memory of this length begins in the page: against the page before, or against the one behind."""
+        assert length <= PAGE
+        return PAGE - length if back else 0
+
+    def lend(self, back, length):
+        return (ctypes.c_uint8 * length).from_address(self.page + self.place(back, length))
+
+    def content(self):
+        return ctypes.string_at(self.page, PAGE)
+
+
+class Harness:
+    """Makes calls with all memory against guard pages."""
+
+    def __init__(self, test):
+        self.test, self.input, self.output = test, Guarded(), Guarded()
+        self.calls, self.entries = 0, set()
+
+    def check(self, entry, about, data, room, expected, call):
+        """The call with input and memory at either end of their pages. `expected` are the bytes at the front of the memory
+        afterwards, which the call counts, or the number of its refusal; every byte beside them stays."""
+        self.entries.add(entry)
+        for from_back in False, True:
+            for to_back in False, True:
+                self.calls += 1
+                self.check_at((entry, about, room, from_back, to_back), data, expected, call)
+
+    def check_at(self, what, data, expected, call):
+        _, _, room, from_back, to_back = what
+        pattern = bytes([(0xC3 ^ self.calls) & 255])
+        ctypes.memset(self.output.page, pattern[0], PAGE)
+        source, out = self.input.lend(from_back, len(data)), self.output.lend(to_back, room)
+        ctypes.memmove(source, bytes(data), len(data))
+        self.input.allow(READ)
+        try:
+            answer = call(source, out)
+        except fc.Refused as refusal:
+            answer = f"refused {refusal.number}"
+        self.input.allow(READ_WRITE)
+        refused = isinstance(expected, int)
+        front, kept = self.output.place(to_back, room), b"" if refused else expected
+        after = pattern * front + kept + pattern * (PAGE - front - len(kept))
+        self.test.assertEqual(answer, f"refused {expected}" if refused else len(expected), what)
+        self.test.assertTrue(self.output.content() == after, (what, "memory is not as expected"))
+
+
+def reads(alphabet, offset, start):
+    """The zero-filling reads and engines that serve a window, with one shape."""
+    yield "fc_decode_substring_from_bytes_at_offset", fc.decode_substring_from_bytes_at_offset_into
+    yield "fc_decode_rolling", fc.decode_rolling_into
+    if offset == 0:
+        yield "fc_decode_substring_from_bytes", lambda a, data, _, s, e, out: fc.decode_substring_from_bytes_into(a, data, s, e, out)
+    if offset == 0 and start == 0:
+        yield "fc_decode_string_from_bytes", lambda a, data, _, __, e, out: fc.decode_string_from_bytes_into(a, data, e, out)
+    if alphabet == Alphabet.Dna2bit:
+        yield "fc_decode_2bit", lambda _, *window: fc.decode_2bit_into(*window)
+    if alphabet == Alphabet.Dna3bit:
+        yield "fc_decode_3bit", lambda _, *window: fc.decode_3bit_into(*window)
+
+
+def rooms(needed):
+    """Memory that is a byte short, just enough, and more than enough."""
+    return [room for room in (needed - 1, needed, needed + 9) if 0 <= room <= PAGE]
+
+
+def fitting(data, room):
+    """The bytes where the memory has room for them, else refusal 4."""
+    return data if len(data) <= room else 4
+
+
+class BetweenGuardPages(unittest.TestCase):
+    """Every entry point that is lent memory: a byte read or written outside it stops the process."""
+
+    def setUp(self):
+        self.harness, self.random = Harness(self), random.Random(1)
+
+    def texts(self, alphabet, members):
+        packed = pack(alphabet, members)
+        about = alphabet.name, len(members)
+        for room in rooms(len(packed)):
+            self.harness.check("fc_encode_sequence", about, members, room, fitting(packed, room),
+                               lambda data, out: fc.encode_sequence_into(alphabet, data, out))  # fmt: skip
+        if members and len(LISTS[alphabet]) < 256:
+            strange = members[:-1] + b"a"
+            self.harness.check("fc_encode_sequence", about, strange, len(members), 5,
+                               lambda data, out: fc.encode_sequence_into(alphabet, data, out))  # fmt: skip
+        self.harness.check("fc_guess_alphabet", about, members, 0, b"", lambda data, _: self.guess(fc.guess_alphabet, data))
+        self.harness.check("fc_guesser_update", about, members, 0, b"", lambda data, _: self.guess(self.updated, data))
+
+    def updated(self, data):
+        guesser = fc.Guesser()
+        guesser.update(data)
+        return guesser.guess()
+
+    def guess(self, function, data):
+        expected = next(alphabet for alphabet in Alphabet if set(bytes(data)) <= set(LISTS[alphabet]))
+        self.assertEqual(function(data), expected)
+        return 0
+
+    def pieces(self, alphabet, members, before):
+        first, piece = members[:before], members[before:]
+        encoder, packed = fc.SequenceEncoder(alphabet), pack(alphabet, members)
+        encoder.update(first)
+        start, end = len(first) * BITS[alphabet] // 8, len(members) * BITS[alphabet] // 8
+        about = alphabet.name, len(members), before
+        for room in rooms(end - start):
+            self.harness.check("fc_encoder_update", about, piece, room, fitting(packed[start:end], room),
+                               lambda data, out: fc.SequenceEncoder(state=encoder.state).update_into(data, out))  # fmt: skip
+        encoder.update(piece)
+        for room in rooms(len(packed) - end):
+            self.harness.check("fc_encoder_finalize", about, b"", room, fitting(packed[end:], room),
+                               lambda _, out: encoder.finalize_into(out))  # fmt: skip
+
+    def window(self, alphabet, file, lent, window):
+        (first, last), (start, end) = lent, window
+        data, about = file[first:last], (alphabet.name, lent, window)
+        expected = unpack(alphabet, data, first, start, end)
+        needed = fc.byte_range_for_bases(start, end, BITS[alphabet])
+        covers = start >= end or first <= needed[0] and needed[1] <= last
+        for room in rooms(len(expected)):
+            for entry, read in reads(alphabet, first, start):
+                self.harness.check(entry, about, data, room, fitting(expected, room),
+                                   lambda data, out, read=read: read(alphabet, data, first, start, end, out))  # fmt: skip
+            self.harness.check("fc_decode_covered", about, data, room, fitting(expected, room) if covers else 3,
+                               lambda data, out: fc.decode_covered_into(alphabet, data, first, start, end, out))  # fmt: skip
+
+    def stream(self, alphabet, file, window):
+        start, end = window
+        width, skip = BITS[alphabet], start * BITS[alphabet] % 8
+        first, last = start * width // 8, (end * width + 7) // 8
+        expected = unpack(alphabet, file, 0, start, end)
+        for source in file[first:last], file[first : max(last, first + 1) - 1]:
+            for room in rooms(len(expected)):
+                count = min(end - start, room, max(len(source) * 8 - skip, 0) // width)
+                taken = 0 if skip and not source else (skip + count * width + 7) // 8
+                self.harness.check("fc_stream_read", (alphabet.name, window, len(source)), source, room, expected[:count],
+                                   lambda data, out: self.stepped(alphabet, skip, end - start, data, out, taken))  # fmt: skip
+
+    def stepped(self, alphabet, skip, budget, data, out, taken):
+        step = fc.Stream(alphabet, skip, budget).read(data, out)
+        self.assertEqual(step.taken, taken)
+        return step.written
+
+    def test_texts_and_pieces(self):
+        for alphabet in Alphabet:
+            for length in [*range(73), 4095, 4096]:
+                members = bytes(self.random.choices(LISTS[alphabet], k=length))
+                self.texts(alphabet, members)
+                self.pieces(alphabet, members, length % 9)
+        print(f"{self.harness.calls} calls between guard pages")
+
+    def test_windows_and_streams(self):
+        for alphabet in Alphabet:
+            for length in [*range(73), 4095, 4096]:
+                file = self.random.randbytes(packed_len(alphabet, length))
+                start = self.random.randint(0, length)
+                for window in (0, length), (start, self.random.randint(start, length)):
+                    first, last = fc.byte_range_for_bases(*window, BITS[alphabet])
+                    for lent in (first, last), (first, max(last, first + 1) - 1), (min(first + 1, last), last):
+                        self.window(alphabet, file, lent, window)
+                    self.stream(alphabet, file, window)
+        print(f"{self.harness.calls} calls between guard pages")
+
+    def test_names(self):
+        for alphabet, name in enumerate(b"dna2bit dna3bit dnaio protein ASCII Unknown".split()):
+            for room in range(9):
+                self.harness.check("fc_display_name", name, b"", room, fitting(name, room),
+                                   lambda _, out: fc._accepted(fc.lib.fc_display_name(alphabet, out, len(out))).count)  # fmt: skip
+
+    def test_no_entry_point_is_left_out(self):
+        for alphabet in Alphabet.Dna2bit, Alphabet.Dna3bit:
+            self.texts(alphabet, b"ACGT")
+            self.pieces(alphabet, b"ACGT", 1)
+            self.window(alphabet, b"\7\7", (0, 2), (0, 4))
+            self.stream(alphabet, b"\7\7", (0, 4))
+        self.test_names()
+        lent = set(re.findall(r"^fc_\w+ (fc_\w+)\(.*uint8_t \*", HEADER, re.MULTILINE))
+        self.assertEqual(self.harness.entries, lent)
+        declared = set(re.findall(r"^\w+ (fc_\w+)\(", HEADER, re.MULTILINE))
+        self.assertEqual(set(fc._FUNCTIONS), declared)
+
+    def test_a_trespass_is_noticed(self):
+        """In a child process each: a guard page stops it."""
+        guarded, other = Guarded(), Guarded()
+        out, source = guarded.lend(True, 8), other.lend(True, 8)
+        nine = ctypes.create_string_buffer(b"ACGTACGTA", 9)
+        other.allow(READ)
+        trespasses = {
+            "read behind": lambda: ctypes.string_at(guarded.page + PAGE, 1),
+            "read before": lambda: ctypes.string_at(guarded.page - 1, 1),
+            "write behind": lambda: ctypes.memset(guarded.page + PAGE, 0, 1),
+            "write to the input": lambda: ctypes.memset(source, 0, 1),
+            "a text too long": lambda: fc.lib.fc_encode_sequence(4, source, 9, guarded.page, PAGE),
+            "memory too long": lambda: fc.lib.fc_encode_sequence(4, nine, 9, out, 9),
+        }
+        for what, trespass in trespasses.items():
+            self.assertEqual(self.child(trespass), signal.SIGSEGV, what)
+        self.assertEqual(self.child(lambda: None), 0, "the child fails by itself")
+
+    def child(self, act):
+        """The signal that stopped a child that does this, 0 if none did."""
+        child = os.fork()
+        if child == 0:
+            try:
+                act()
+            finally:
+                os._exit(0)
+        status = os.waitpid(child, 0)[1]
+        return os.WTERMSIG(status) if os.WIFSIGNALED(status) else 0
+
+
+# The streaming decoder
+
+
+class Source:
+    """A source that gives at most `most` bytes a read, and counts what it gave."""
+
+    def __init__(self, data, most=1 << 30):
+        self.data, self.most, self.given = data, most, 0
+
+    def read(self, count):
+        found = self.data[self.given : self.given + min(count, self.most)]
+        self.given += len(found)
+        return found
+
+
+class Failing(Source):
+    """A source that fails at its every second read and loses nothing by it."""
+
+    failed = False
+
+    def read(self, count):
+        self.failed = not self.failed
+        if self.failed:
+            raise TimeoutError
+        return super().read(count)
+
+
+class Streaming(unittest.TestCase):
+    def windows(self):
+        """A file of random bits and a window of it."""
+        chance = random.Random(3)
+        for alphabet in Alphabet:
+            for length in 0, 1, 2, 3, 7, 8, 9, 30, 70, 20000:
+                start = chance.randint(0, 40)
+                yield alphabet, chance.randbytes(20100), start, start + length
+
+    def drained(self, decoder, step):
+        """What reads of so many bases each give until the window's end or a refusal, which is answered too."""
+        found = bytearray()
+        while True:
+            try:
+                read = decoder.read(step)
+            except TimeoutError:
+                continue
+            except fc.Refused as refusal:
+                return found, refusal
+            if not read:
+                return found, None
+            found += read
+
+    def test_a_window_is_whole_and_no_byte_is_read_ahead(self):
+        for alphabet, file, start, end in self.windows():
+            first, last = start * BITS[alphabet] // 8, packed_len(alphabet, end)
+            for most, step in (3, 5), (1 << 30, 7), (1 << 30, 1 << 20):
+                for kind in Source, Failing:
+                    source = kind(file[first:], most)
+                    decoder = fc.StreamingDecoder.for_window(source, alphabet, start, end)
+                    found, refusal = self.drained(decoder, step)
+                    self.assertIsNone(refusal)
+                    self.assertTrue(found == unpack(alphabet, file, 0, start, end), (alphabet, start, end, most, step))
+                    decoder.stream.end()
+                    self.assertEqual(source.given, last - first if start < end else 0)
+
+    def test_a_short_source_is_never_a_whole_window(self):
+        for alphabet, file, start, end in self.windows():
+            width, first = BITS[alphabet], start * BITS[alphabet] // 8
+            needed = packed_len(alphabet, end) - first
+            for length in (0, needed // 2, needed - 1) if start < end else ():
+                whole = max(length * 8 - start * width % 8, 0) // width
+                for step in 5, 1 << 20:
+                    source = Source(file[first : first + length], 3)
+                    decoder = fc.StreamingDecoder.for_window(source, alphabet, start, end)
+                    found, refusal = self.drained(decoder, step)
+                    self.assertTrue(found == unpack(alphabet, file, 0, start, start + whole))
+                    self.assertIsInstance(refusal, EOFError)
+                    self.assertEqual((refusal.number, refusal.bases), (7, end - start - whole))
+                    with self.assertRaises(fc.Outstanding):
+                        decoder.read(8)
+                whole_read = fc.StreamingDecoder.for_window(io.BytesIO(file[first : first + length]), alphabet, start, end)
+                with self.assertRaises(fc.Outstanding):
+                    whole_read.read()
+
+    def test_nothing_is_read_before_it_is_asked_for(self):
+        source = Source(b"\xe4" * 64)
+        decoder = fc.StreamingDecoder.for_window(source, Alphabet.Dna2bit, 1, 200)
+        for count in range(1, 200):
+            decoder.read(1)
+            self.assertEqual(source.given, (2 + count * 2 + 7) // 8)
+
+    def test_a_skip_is_due_even_with_no_base(self):
+        with self.assertRaises(fc.Outstanding):
+            fc.StreamingDecoder(io.BytesIO(), 0, 3, 0).read(4)
+        self.assertEqual(fc.StreamingDecoder(io.BytesIO(b"\t"), 0, 3, 0).read(4), b"")
+        with self.assertRaises(fc.BadSkip):
+            fc.StreamingDecoder(io.BytesIO(), 0, 8, 0)
+        self.assertEqual(fc.StreamingDecoder.for_window(io.BytesIO(), 0, 9, 4).read(), b"")
+
+    def test_a_source_that_gives_too_much_is_noticed(self):
+        class Generous:
+            def read(self, _):
+                return bytes(64)
+
+        with self.assertRaises(ValueError):
+            fc.StreamingDecoder(Generous(), 0, 0, 4).read(4)
+
+
+class Forms(unittest.TestCase):
+    """What Python's own forms could get wrong."""
+
+    def test_plain_names_give_what_lent_memory_gets(self):
+        chance = random.Random(4)
+        for alphabet in Alphabet:
+            for length in range(40):
+                members = bytes(chance.choices(LISTS[alphabet], k=length))
+                packed = fc.encode_sequence(alphabet, members)
+                self.assertEqual(packed, pack(alphabet, members))
+                cut, encoder = chance.randint(0, length), fc.SequenceEncoder(alphabet)
+                joined = encoder.update(members[:cut]) + encoder.update(members[cut:]) + encoder.finalize()
+                self.assertEqual(joined, packed)
+                self.assertEqual(fc.decode_string_from_bytes(alphabet, packed, length), members)
+                self.assertEqual(fc.decode_substring_from_bytes(alphabet, packed, cut, length), members[cut:])
+                for read in fc.decode_substring_from_bytes_at_offset, fc.decode_covered, fc.decode_rolling:
+                    self.assertEqual(read(alphabet, packed, byte_offset=0, start=cut, end=length), members[cut:])
+        self.assertEqual(fc.decode_2bit(b"\x1b", 0, 1, 4), b"CAG")
+        self.assertEqual(fc.decode_3bit(b"\x05\x39\x77", 0, 2, 6), b"GTNR")
+
+    def test_every_kind_of_memory(self):
+        for kind in bytes, bytearray, memoryview, lambda data: memoryview(bytearray(data))[:]:
+            self.assertEqual(fc.encode_sequence(0, kind(b"ACGT")), b"\x9c")
+            self.assertEqual(fc.guess_alphabet(kind(b"ACGU")), Alphabet.Dna3bit)
+        for wrong in "ACGT", None, 7:
+            self.assertRaises(TypeError, fc.guess_alphabet, wrong)
+        self.assertRaises(BufferError, fc.guess_alphabet, memoryview(b"ACGT")[::2])
+        self.assertRaises(BufferError, fc.encode_sequence_into, 0, b"ACGT", b"....")  # bytes cannot be lent for output
+
+    def test_memory_is_not_kept(self):
+        data = bytearray(b"ACGT")
+        fc.guess_alphabet(data)
+        fc.encode_sequence_into(0, data, bytearray(4))
+        with self.assertRaises(fc.ShortMemory):
+            fc.encode_sequence_into(0, data, bytearray())
+        data.append(0)  # refused by Python while a call still holds the memory
+
+    def test_memory_that_overlaps(self):
+        memory = memoryview(bytearray(b"ACGTACGT"))
+        for source, out in (memory, memory), (memory[:5], memory[4:]), (memory[4:], memory[:5]):
+            self.assertRaises(ValueError, fc.encode_sequence_into, 4, source, out)
+        self.assertEqual(memory, b"ACGTACGT")
+        self.assertEqual(fc.encode_sequence_into(4, memory[:4], memory[4:]), 4)
+        self.assertEqual(fc.encode_sequence_into(4, memory[4:4], memory), 0)
+
+    def test_numbers_that_64_bits_do_not_hold(self):
+        for value in -1, 1 << 64, (1 << 64) + 2:
+            self.assertRaises(OverflowError, fc.byte_range_for_bases, 0, value, 2)
+            self.assertRaises(OverflowError, fc.encode_sequence, value, b"")
+            self.assertRaises(OverflowError, fc.Stream, 0, 0, value)
+            self.assertRaises(OverflowError, fc.decode_covered, 0, b"", value, 0, 1)
+        self.assertRaises(TypeError, fc.byte_range_for_bases, 0, 1.5, 2)
+
+    def test_windows_that_no_memory_holds(self):
+        self.assertRaises(fc.ShortMemory, fc.decode_string_from_bytes, 0, b"", 1 << 60)
+        self.assertRaises(fc.TooFar, fc.decode_string_from_bytes, 0, b"", (1 << 60) + 1)
+        self.assertRaises(fc.Uncovered, fc.decode_covered, 0, b"", 0, 0, 1 << 60)
+        self.assertEqual(fc.decode_covered(6, b"", (1 << 64) - 1, 5, 5), b"")  # empty before any question
+
+    def test_empty_memory_everywhere(self):
+        empty = bytearray()
+        for alphabet in Alphabet:
+            self.assertEqual(fc.guess_alphabet(b""), Alphabet.Dna2bit)
+            self.assertEqual(fc.encode_sequence_into(alphabet, b"", empty), 0)
+            encoder = fc.SequenceEncoder(alphabet)
+            self.assertEqual((encoder.update_into(b"", empty), encoder.finalize_into(empty)), (0, 0))
+            for _, read in reads(alphabet, 0, 0):
+                self.assertEqual(read(alphabet, b"", 0, 0, 0, empty), 0)
+            self.assertEqual(fc.decode_covered_into(alphabet, b"", 0, 0, 0, empty), 0)
+            self.assertEqual(fc.Stream(alphabet, 0, 1).read(b"", empty)[:3], (0, 0, fc.Status.Full))
+
+    def test_a_refused_update_leaves_the_encoder_as_it_was(self):
+        encoder = fc.SequenceEncoder(Alphabet.Dna2bit)
+        self.assertEqual(encoder.update(b"ACN"), b"")
+        before = bytes(encoder.state)
+        self.assertRaises(fc.ShortMemory, encoder.update_into, b"T", bytearray())
+        self.assertEqual(bytes(encoder.state), before)
+        self.assertEqual(encoder.update(b"T"), b"\x9c")
+        with self.assertRaises(fc.NotMember) as caught:
+            encoder.finalize()
+        self.assertEqual(str(caught.exception), "refused by 5: byte 4E at position 2 is no member")
+
+    def test_every_refusal_has_its_exception(self):
+        refusals = {
+            1: lambda: fc.Guesser(state=fc.fc_guesser(0)).guess(),
+            2: lambda: fc.byte_range_for_bases(0, (1 << 60) + 1, 2),
+            3: lambda: fc.decode_covered(4, b"", 0, 0, 1),
+            4: lambda: fc.encode_sequence_into(4, b"A", bytearray()),
+            5: lambda: fc.encode_sequence(0, b"ACNT"),
+            6: lambda: fc.Stream(4, 8, 0),
+            7: lambda: fc.Stream(4, 0, 9).end(),
+            8: lambda: fc.SequenceEncoder(6),
+            9: lambda: fc.byte_range_for_bases(0, 0, 9),
+        }
+        for number, call in refusals.items():
+            with self.assertRaises(fc.Refused) as caught:
+                call()
+            self.assertEqual((caught.exception.number, type(caught.exception)), (number, fc._REFUSALS[number]))
+
+
+if __name__ == "__main__":
+    unittest.main()
