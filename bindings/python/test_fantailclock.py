@@ -63,8 +63,8 @@ def unpack(alphabet, data, offset, start, end):
     width, symbols = BITS[alphabet], LISTS[alphabet]
     first, last = start * width // 8, (end * width + 7) // 8
     lent = bytes(data[at - offset] if 0 <= at - offset < len(data) else 0 for at in range(first, last))
-    bits = int.from_bytes(lent, "big")
-    codes = ((bits >> (8 * last - width * (base + 1))) % (1 << width) for base in range(start, end))
+    bits = "".join(format(byte, "08b") for byte in lent)[start * width % 8 :]
+    codes = (int(bits[at * width : (at + 1) * width], 2) for at in range(end - start))
     return bytes(symbols[code] if code < len(symbols) else ord("X") for code in codes)
 
 
@@ -178,8 +178,8 @@ class Worked(unittest.TestCase):
             self.assertFalse(alphabet.contains(256 + ord("A")))
 
     def test_the_module_s_example(self):
-        self.assertEqual(doctest.testmod(fc)[0], 0)
-        self.assertGreater(doctest.testmod(fc)[1], 0)
+        failed, tried = doctest.testmod(fc)
+        self.assertEqual((failed, tried > 0), (0, True))
 
 
 # Forged states
@@ -551,9 +551,9 @@ class Streaming(unittest.TestCase):
         """A file of random bits and a window of it."""
         chance = random.Random(3)
         for alphabet in Alphabet:
-            for length in 0, 1, 2, 3, 7, 8, 9, 30, 70, 20000:
+            for length in 0, 1, 2, 3, 7, 8, 9, 30, 70, 9000:
                 start = chance.randint(0, 40)
-                yield alphabet, chance.randbytes(20100), start, start + length
+                yield alphabet, chance.randbytes(9100), start, start + length
 
     def drained(self, decoder, step):
         """What reads of so many bases each give until the window's end or a refusal, which is answered too."""

@@ -1,0 +1,73 @@
+/*
+ * Packs a text, fetches a window of it by byte range and covered read, and streams the same window byte by byte.
+ *
+ *     cc -std=c11 -Iinclude bindings/c/example.c target/staticlib/libfantailclock.a -o example && ./example
+ *
+ * What it must print stands in example.expected, written from the worked table of the rules.
+ */
+#include <inttypes.h>
+#include <stdio.h>
+
+#include "fantailclock.h"
+
+static const char *const status_names[] = {"refused", "Hungry", "Done", "Full"};
+
+/* The packing of a text in the alphabet that is guessed for it; the count of bytes, 0 where it is refused. */
+static size_t pack(uint64_t alphabet, const uint8_t *text, size_t len, uint8_t *out, size_t room) {
+    uint8_t name[8];
+    fc_count named = fc_display_name(alphabet, name, sizeof name);
+    fc_packed packed = fc_encode_sequence(alphabet, text, len, out, room);
+    printf("%.*s %.*s:", (int)named.count, (const char *)name, (int)len, (const char *)text);
+    if (packed.refusal != 0) {
+        printf(" refused %" PRIu64 ", position %" PRIu64 ", byte %02" PRIX64 "\n", packed.refusal, packed.position, packed.byte);
+        return 0;
+    }
+    for (uint64_t i = 0; i < packed.count; i++)
+        printf(" %02X", out[i]);
+    printf("\n");
+    return (size_t)packed.count;
+}
+
+/* The bases from `start` to `end` out of the file's bytes that hold them, of which `missing` were not fetched. */
+static void fetch(uint64_t alphabet, const uint8_t *file, uint64_t start, uint64_t end, size_t missing) {
+    uint8_t bases[16];
+    fc_range range = fc_byte_range_for_bases(start, end, fc_bits_per_symbol(alphabet).value);
+    size_t fetched = (size_t)(range.end - range.start) - missing;
+    fc_count read = fc_decode_covered(alphabet, file + range.start, fetched, range.start, start, end, bases, sizeof bases);
+    printf("bases %" PRIu64 " to %" PRIu64 ", bytes %" PRIu64 " to %" PRIu64 ", %zu fetched: ", start, end, range.start, range.end, fetched);
+    if (read.refusal != 0)
+        printf("refused %" PRIu64 "\n", read.refusal);
+    else
+        printf("%.*s\n", (int)read.count, (const char *)bases);
+}
+
+/* The same window, its bytes coming one at a time; the end call after each says what is still to come. */
+static void stream(uint64_t alphabet, const uint8_t *file, uint64_t start, uint64_t end) {
+    uint8_t bases[4];
+    uint64_t bits = fc_bits_per_symbol(alphabet).value;
+    fc_range range = fc_byte_range_for_bases(start, end, bits);
+    fc_stream state = fc_stream_new(alphabet, start * bits % 8, end - start).next;
+    for (uint64_t at = range.start; at < range.end; at++) {
+        fc_streamed step = fc_stream_read(state, file + at, 1, bases, sizeof bases);
+        fc_ended ended = fc_stream_end(step.next);
+        printf("byte %" PRIu64 ": %" PRIu64 " taken, %" PRIu64 " written, %s; ", at, step.taken, step.written, status_names[step.status]);
+        printf("\"%.*s\"; end %" PRIu64 ", %" PRIu64 " outstanding\n", (int)step.written, (const char *)bases, ended.refusal, ended.outstanding);
+        state = step.next;
+    }
+}
+
+int main(void) {
+    static const uint8_t text[] = {'A', 'C', 'G', 'T', 'N', 'R', 'Y', 'U'};
+    static const uint8_t strange[] = {'A', 'C', 'N', 'T'};
+    uint8_t file[16];
+    uint64_t alphabet = fc_guess_alphabet(text, sizeof text).value;
+
+    pack(0, strange, sizeof strange, file, sizeof file);
+    pack(0, text, 4, file, sizeof file);
+    if (pack(alphabet, text, sizeof text, file, sizeof file) == 0)
+        return 1;
+    fetch(alphabet, file, 2, 6, 0);
+    fetch(alphabet, file, 2, 6, 1);
+    stream(alphabet, file, 2, 6);
+    return 0;
+}
