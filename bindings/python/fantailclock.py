@@ -13,7 +13,7 @@ has changed nothing.
     >>> fc.decode_covered(fc.Alphabet.Dna3bit, packed[first:end], first, 2, 6)
     bytearray(b'GTNR')
 
-The shared object is made by bindings/python/build; FANTAILCLOCK_SO names another one. Calls release the interpreter's
+The shared object is made by bindings/python/build; it is found there, beside this file, or where FANTAILCLOCK_SO says. Calls release the interpreter's
 lock: memory that is lent to a call must be left alone by other threads until it returns.
 """
 
@@ -149,10 +149,17 @@ _FUNCTIONS = {
 }
 
 
+def _path():
+    """The shared object: the one that FANTAILCLOCK_SO names, else one beside this file, else the one that `build` makes."""
+    here = pathlib.Path(__file__).resolve().parent
+    beside = here / "libfantailclock.so"
+    made = here / "../../target/bindings/python/libfantailclock.so"
+    return os.environ.get("FANTAILCLOCK_SO") or str(beside if beside.exists() else made)
+
+
 def _load():
     """The shared object with every function's types; ImportError where there is none, or one of another version."""
-    beside = pathlib.Path(__file__).resolve().parents[2] / "target/bindings/python/libfantailclock.so"
-    path = os.environ.get("FANTAILCLOCK_SO", str(beside))
+    path = _path()
     try:
         loaded = ctypes.CDLL(path)
     except OSError as error:

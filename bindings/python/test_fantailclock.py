@@ -9,7 +9,11 @@ import os
 import pathlib
 import random
 import re
+import shutil
 import signal
+import subprocess
+import sys
+import tempfile
 import unittest
 
 import fantailclock as fc
@@ -706,6 +710,22 @@ class Forms(unittest.TestCase):
         with self.assertRaises(fc.NotMember) as caught:
             encoder.finalize()
         self.assertEqual(str(caught.exception), "refused by 5: byte 4E at position 2 is no member")
+
+    def test_the_shared_object_is_found_or_missed_plainly(self):
+        found = "import fantailclock as fc; print(fc.guess_alphabet(b'ACGU').name)"
+        with tempfile.TemporaryDirectory() as elsewhere:
+            shutil.copy(fc.__file__, elsewhere)
+            self.assertIn("ImportError: ", self.imported(elsewhere, found))
+            self.assertEqual(self.imported(elsewhere, found, FANTAILCLOCK_SO=fc.lib._name), "Dna3bit")
+            shutil.copy(fc.lib._name, elsewhere + "/libfantailclock.so")
+            self.assertEqual(self.imported(elsewhere, found), "Dna3bit")
+
+    def imported(self, folder, program, **more):
+        """What a program prints that imports the module from a folder."""
+        environment = {name: value for name, value in os.environ.items() if name != "FANTAILCLOCK_SO"}
+        command = [sys.executable, "-B", "-c", program]
+        ran = subprocess.run(command, cwd=folder, env={**environment, **more}, capture_output=True, text=True)
+        return (ran.stdout + ran.stderr).strip()
 
     def test_every_refusal_has_its_exception(self):
         refusals = {

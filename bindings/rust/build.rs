@@ -8,6 +8,7 @@ fn main() {
     let folder = env::var_os("FANTAILCLOCK_LIB").map_or_else(|| here.join("../../target/staticlib"), PathBuf::from);
     let archive = folder.join("libfantailclock.a");
     assert!(archive.is_file(), "no archive {}; build it first: rt staticlib fantailclock", archive.display());
+    let folder = folder.canonicalize().expect("the folder of the archive"); // the linker runs elsewhere
     println!("cargo:rustc-link-search=native={}", folder.display());
     println!("cargo:rustc-link-lib=static=fantailclock");
     println!("cargo:rerun-if-env-changed=FANTAILCLOCK_LIB");

@@ -125,8 +125,8 @@ fn answers(words: &[&'static str]) -> Vec<String> {
     }
 }
 
-#[test]
-fn every_row_of_the_worked_table() {
+/// Asks every row and compares.
+fn check_table() {
     let rows = rows(WORKED);
     assert_eq!(rows.len(), 29);
     for row in rows {
@@ -136,6 +136,17 @@ fn every_row_of_the_worked_table() {
             assert_eq!(answer, row.answer, "{}", row.line);
         }
     }
+}
+
+#[test]
+fn every_row_of_the_worked_table() {
+    check_table();
+}
+
+#[test]
+fn every_row_in_threads_at_once() {
+    let threads: Vec<_> = (0..8).map(|_| std::thread::spawn(|| (0..200).for_each(|_| check_table()))).collect();
+    threads.into_iter().for_each(|thread| thread.join().unwrap());
 }
 
 #[test]
