@@ -700,6 +700,11 @@ class Forms(unittest.TestCase):
             self.assertEqual(fc.decode_covered_into(alphabet, b"", 0, 0, 0, empty), 0)
             self.assertEqual(fc.Stream(alphabet, 0, 1).read(b"", empty)[:3], (0, 0, fc.Status.Full))
 
+    def test_no_bytes_have_an_address(self):
+        for empty in b"", bytearray(), memoryview(b""), (ctypes.c_uint8 * 0)(), (ctypes.c_uint8 * 0).from_address(0):
+            with fc._Lent(empty) as (address, length):
+                self.assertEqual((address > 0, length), (True, 0))
+
     def test_a_refused_update_leaves_the_encoder_as_it_was(self):
         encoder = fc.SequenceEncoder(Alphabet.Dna2bit)
         self.assertEqual(encoder.update(b"ACN"), b"")
