@@ -13,8 +13,8 @@ has changed nothing.
     >>> fc.decode_covered(fc.Alphabet.Dna3bit, packed[first:end], first, 2, 6)
     bytearray(b'GTNR')
 
-The shared object is made by bindings/python/build; it is found there, beside this file, or where FANTAILCLOCK_SO says. Calls release the interpreter's
-lock: memory that is lent to a call must be left alone by other threads until it returns.
+The shared object is made by bindings/python/build; it is found there, beside this file, or where FANTAILCLOCK_SO says.
+Calls release the interpreter's lock: memory that is lent to a call must be left alone by other threads until it returns.
 """
 
 import ctypes

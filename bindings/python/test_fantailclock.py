@@ -196,7 +196,7 @@ class States(unittest.TestCase):
 
     def states(self, kind, struct, count):
         found = [(line, struct(*map(number, words[1:])), int(answer))
-                 for line, words, answer in rows("states.txt") if words[0] == kind]  # fmt: skip
+                 for line, words, answer in rows("states.txt") if words[0] == kind]
         self.assertEqual(len(found), count)
         return found
 
@@ -393,11 +393,11 @@ class BetweenGuardPages(unittest.TestCase):
         about = alphabet.name, len(members)
         for room in rooms(len(packed)):
             self.harness.check("fc_encode_sequence", about, members, room, fitting(packed, room),
-                               lambda data, out: fc.encode_sequence_into(alphabet, data, out))  # fmt: skip
+                               lambda data, out: fc.encode_sequence_into(alphabet, data, out))
         if members and len(LISTS[alphabet]) < 256:
             strange = members[:-1] + b"a"
             self.harness.check("fc_encode_sequence", about, strange, len(members), 5,
-                               lambda data, out: fc.encode_sequence_into(alphabet, data, out))  # fmt: skip
+                               lambda data, out: fc.encode_sequence_into(alphabet, data, out))
         self.harness.check("fc_guess_alphabet", about, members, 0, b"", lambda data, _: self.guess(fc.guess_alphabet, data))
         self.harness.check("fc_guesser_update", about, members, 0, b"", lambda data, _: self.guess(self.updated, data))
 
@@ -419,11 +419,11 @@ class BetweenGuardPages(unittest.TestCase):
         about = alphabet.name, len(members), before
         for room in rooms(end - start):
             self.harness.check("fc_encoder_update", about, piece, room, fitting(packed[start:end], room),
-                               lambda data, out: fc.SequenceEncoder(state=encoder.state).update_into(data, out))  # fmt: skip
+                               lambda data, out: fc.SequenceEncoder(state=encoder.state).update_into(data, out))
         encoder.update(piece)
         for room in rooms(len(packed) - end):
             self.harness.check("fc_encoder_finalize", about, b"", room, fitting(packed[end:], room),
-                               lambda _, out: encoder.finalize_into(out))  # fmt: skip
+                               lambda _, out: encoder.finalize_into(out))
 
     def window(self, alphabet, file, lent, window):
         (first, last), (start, end) = lent, window
@@ -434,9 +434,9 @@ class BetweenGuardPages(unittest.TestCase):
         for room in rooms(len(expected)):
             for entry, read in reads(alphabet, first, start):
                 self.harness.check(entry, about, data, room, fitting(expected, room),
-                                   lambda data, out, read=read: read(alphabet, data, first, start, end, out))  # fmt: skip
+                                   lambda data, out, read=read: read(alphabet, data, first, start, end, out))
             self.harness.check("fc_decode_covered", about, data, room, fitting(expected, room) if covers else 3,
-                               lambda data, out: fc.decode_covered_into(alphabet, data, first, start, end, out))  # fmt: skip
+                               lambda data, out: fc.decode_covered_into(alphabet, data, first, start, end, out))
 
     def stream(self, alphabet, file, window):
         start, end = window
@@ -448,7 +448,7 @@ class BetweenGuardPages(unittest.TestCase):
                 count = min(end - start, room, max(len(source) * 8 - skip, 0) // width)
                 taken = 0 if skip and not source else (skip + count * width + 7) // 8
                 self.harness.check("fc_stream_read", (alphabet.name, window, len(source)), source, room, expected[:count],
-                                   lambda data, out: self.stepped(alphabet, skip, end - start, data, out, taken))  # fmt: skip
+                                   lambda data, out: self.stepped(alphabet, skip, end - start, data, out, taken))
 
     def stepped(self, alphabet, skip, budget, data, out, taken):
         step = fc.Stream(alphabet, skip, budget).read(data, out)
@@ -479,7 +479,7 @@ class BetweenGuardPages(unittest.TestCase):
         for alphabet, name in enumerate(b"dna2bit dna3bit dnaio protein ASCII Unknown".split()):
             for room in range(9):
                 self.harness.check("fc_display_name", name, b"", room, fitting(name, room),
-                                   lambda _, out: fc._accepted(fc.lib.fc_display_name(alphabet, out, len(out))).count)  # fmt: skip
+                                   lambda _, out: fc._accepted(fc.lib.fc_display_name(alphabet, out, len(out))).count)
 
     def test_no_entry_point_is_left_out(self):
         for alphabet in Alphabet.Dna2bit, Alphabet.Dna3bit:

@@ -3,6 +3,7 @@
 //!
 //!     fetch FILE [ALPHABET_NUMBER [BASES [WINDOWS]]]
 //!
+//! By default 1,000 windows of 1 to 100,000 bases out of 128 Mi and three, so that the last byte is filled in part.
 //! The file is made, read and removed. The last line printed has the times and the peak memory; a wrong base, a byte too
 //! few or more than 8 MiB of memory end the program with an error.
 
@@ -70,11 +71,16 @@ struct Buffers {
     bases: Vec<u8>,
 }
 
-/// Fetches a window by its byte range and compares it; every tenth is also streamed from the file.
+/// Fetches a window by its byte range and compares it: the first at the sequence's start, the second at its end, the others
+/// anywhere. Every tenth is also streamed from the file.
 fn check(sequence: &Sequence, file: &mut File, number: u64, buffers: &mut Buffers) -> Answer<u64> {
-    let start = mixed(!number) % sequence.bases;
-    let end = (start + 1 + mixed(number ^ (1 << 63)) % LONGEST).min(sequence.bases);
-    let len = (end - start) as usize;
+    let len = (1 + mixed(number ^ (1 << 63)) % LONGEST).min(sequence.bases);
+    let start = match number {
+        0 => 0,
+        1 => sequence.bases - len,
+        _ => mixed(!number) % (sequence.bases - len + 1),
+    };
+    let (end, len) = (start + len, len as usize);
     let Buffers { expected, bytes, bases } = buffers;
     sequence.fill(start, &mut expected[..len]);
 
@@ -137,7 +143,7 @@ fn main() -> Answer<()> {
     let arguments: Vec<String> = std::env::args().skip(1).collect();
     let path = arguments.first().ok_or("fetch FILE [ALPHABET_NUMBER [BASES [WINDOWS]]]")?;
     let number = |at: usize, default: u64| arguments.get(at).map_or(Ok(default), |word| word.parse());
-    let sequence = Sequence::new(Alphabet::try_from(number(1, 0)?)?, number(2, 128 << 20)?);
+    let sequence = Sequence::new(Alphabet::try_from(number(1, 0)?)?, number(2, (128 << 20) + 3)?);
     let answer = run(path, &sequence, number(3, 1000)?);
     fs::remove_file(path)?;
     answer
