@@ -512,3 +512,4 @@ class StreamingDecoder(io.RawIOBase):
                 return step.written
             if not fetched:
                 self.stream.end()
+                raise AssertionError("a hungry stream is not complete")
