@@ -11,6 +11,26 @@ memory lent to it: alloc is the share of the Rust's best time that allocating an
 and P/(R-a) the ratio without it.
 ";
 
+/// The columns of the file that --tsv asks for: sizes of one call, times of one call in nanoseconds, ratios of best times.
+/// Where the Rust returns no Vec, `allocated` and `alloc_best_ns` are 0.
+const COLUMNS: [&str; 15] = [
+    "row",
+    "calls",
+    "bases",
+    "copied",
+    "allocated",
+    "port_best_ns",
+    "port_median_ns",
+    "rust_best_ns",
+    "rust_median_ns",
+    "memcpy_best_ns",
+    "memcpy_median_ns",
+    "alloc_best_ns",
+    "port_to_rust",
+    "port_to_memcpy",
+    "port_to_rust_less_alloc",
+];
+
 /// One row: how often a round calls, and what a call handles and writes.
 pub struct Row<'a> {
     pub name: &'a str,
@@ -58,8 +78,7 @@ impl Bench {
         print!("{LEGEND}");
         let names = ["port", "median", "Rust", "median", "memcpy"].map(|name| format!("{name:>10}")).concat();
         println!("{:36}{:>5}{names}{:>7}{:>9}{:>9}{:>9}", "row", "", "alloc", "P/R", "P/copy", "P/(R-a)");
-        let times = ["port_best", "port_median", "rust_best", "rust_median", "memcpy_best", "alloc_best"];
-        self.table = format!("row\tbases_per_call\t{}\n", times.map(|name| format!("{name}_ns")).join("\t"));
+        self.table = COLUMNS.join("\t") + "\n";
     }
 
     pub fn wants(&self, name: &str) -> bool {
@@ -104,12 +123,14 @@ impl Bench {
         let alloc_time = if row.allocated == 0 { 0.0 } else { alloc.best };
         let share =
             if row.allocated == 0 { "-".to_string() } else { format!("{:.1}%", 100.0 * alloc_time / rust.best) };
-        let ratios =
-            [rust.best, copy.best, rust.best - alloc_time].map(|of| format!("{:>9.2}", port.best / of)).concat();
-        println!("{:36}{unit:>5}{times}{share:>7}{ratios}", row.name);
-        let times = [port.best, port.median, rust.best, rust.median, copy.best, alloc.best];
-        let times: Vec<String> = times.iter().map(|time| format!("{time:.2}")).collect();
-        writeln!(self.table, "{}\t{}\t{}", row.name, row.bases, times.join("\t")).expect("a String takes text");
+        let ratios = [rust.best, copy.best, rust.best - alloc_time].map(|of| port.best / of);
+        println!("{:36}{unit:>5}{times}{share:>7}{}", row.name, ratios.map(|ratio| format!("{ratio:>9.2}")).concat());
+        let sizes = [row.calls, row.bases, row.copied, row.allocated].map(|size| size.to_string());
+        let times = [port.best, port.median, rust.best, rust.median, copy.best, copy.median, alloc_time];
+        let times = times.map(|time| format!("{time:.2}"));
+        let ratios = ratios.map(|ratio| format!("{ratio:.4}"));
+        let fields = [sizes.join("\t"), times.join("\t"), ratios.join("\t")].join("\t");
+        writeln!(self.table, "{}\t{fields}", row.name).expect("a String takes text");
     }
 
     /// Writes the figures to the file asked for, if one was.
