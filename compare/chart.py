@@ -4,9 +4,9 @@ import math
 from html import escape
 
 WIDTH = 1000
-LABELS = 150  # the row labels end here
-PANELS = {"port_to_rust": (160, 560), "port_to_memcpy": (600, 990)}
-ROW, BAR, HEADING, NUMBER = 16, 11, 22, 36  # heights of a row, its bar and a heading; width of a number beside a bar
+LABELS = 145  # the row labels end here
+PANELS = {"port_to_rust": (158, 560), "port_to_memcpy": (600, 990)}
+ROW, BAR, HEADING, NUMBER = 16, 11, 22, 42  # heights of a row, its bar and a heading; width of a number beside a bar
 FASTER, SLOWER, COPY, GRID, INK, GOAL = "#2a7f86", "#c8642c", "#7c86a3", "#dddddd", "#222222", "#a3123a"
 STEPS = [m * 10.0**e for e in range(-3, 4) for m in (1, 2, 5)]
 
@@ -51,8 +51,9 @@ class Drawing:
 
 
 def shown(ratio):
-    """A ratio in two figures, or to the unit."""
-    return f"{ratio:.0f}" if ratio >= 10 else f"{ratio:.1f}" if ratio >= 1.95 else f"{ratio:.2f}"
+    """A ratio in two figures or three."""
+    places = 0 if ratio >= 9.95 else 1 if ratio >= 1.995 else 2 if ratio >= 0.0995 else 3
+    return f"{ratio:.{places}f}"
 
 
 def legend(drawing, title, subtitle):
