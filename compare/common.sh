@@ -1,4 +1,4 @@
-# Shared by compare/oracle, compare/run and compare/bench, which set `here` to the folder of this file and source it.
+# Shared by compare/oracle, compare/run, compare/list and compare/bench, which set `here` to the folder of this file and source it.
 
 root=$(dirname "$here")
 build=$root/target/compare
@@ -58,10 +58,25 @@ need_archive() {
     exit 1
 }
 
-# Compiles the program of src/$1.rs against the archive and the oracle of the folder $2.
+# Compiles the program of src/$1.rs against the oracle of the folder $2; further words are rustc's.
+oracle_program() {
+    name=$1
+    folder=$2
+    shift 2
+    compile -C opt-level=3 --extern oracle="$build/$folder/liboracle.rlib" -L dependency="$build" "$@" \
+        -o "$build/$name" "$here/src/$name.rs"
+}
+
+# The same against the archive too.
 program() {
     # shellcheck disable=SC2086 # $layers is a list of words
-    compile -C opt-level=3 $layers --extern oracle="$build/$2/liboracle.rlib" -L dependency="$build" \
-        -L native="$(dirname "$archive")" -l static=fantailclock \
-        -o "$build/$1" "$here/src/$1.rs"
+    oracle_program "$1" "$2" $layers -L native="$(dirname "$archive")" -l static=fantailclock
+}
+
+# Makes the list of calls and what `replay` must print of it, as stdin and stdout of the folder $1. The archive plays no
+# part in it: the list has every layer.
+make_list() {
+    oracle_program list checked --cfg have_alphabet --cfg have_packing --cfg have_windows --cfg have_streaming --cfg have_ending
+    mkdir -p "$1"
+    "$build/list" "$1"
 }

@@ -1,0 +1,101 @@
+//! In the place of `check.rs` where the list of calls is made: a sample of the comparison's cases, spread evenly over
+//! entry points, refusals and alphabets.
+
+use crate::case::{show_words, Call, Entry, Layer, Memory};
+use crate::model;
+use crate::random::Random;
+use std::collections::{BTreeMap, HashSet};
+
+/// Nothing stops the making of cases here.
+pub type Go = Result<(), std::convert::Infallible>;
+
+/// The most lines of an entry point.
+const LINES: usize = 300;
+/// By how many bytes a call lends, as text or as output memory, whichever is more: the most bytes of its class, and the
+/// most lines of a group of that class. An entry point has several groups in each: one for each refusal in each
+/// alphabet, and more. From 256 bases on the port reads Dna2bit by rows.
+const CLASSES: [(usize, usize); 3] = [(40, 60), (255, 3), (320, 2)];
+
+/// Some calls of a group, each of those offered as likely as another, and how many were offered.
+#[derive(Default)]
+struct Kept {
+    calls: Vec<Call>,
+    offered: u64,
+}
+
+pub struct Checker {
+    random: Random,
+    /// The groups of an entry point, by what tells them apart.
+    groups: Vec<BTreeMap<[u64; 4], Kept>>,
+    /// The rows of the worked table, which are taken whole.
+    rows: Vec<Call>,
+}
+
+impl Checker {
+    pub fn new(seed: u64) -> Checker {
+        let groups = Entry::ALL.iter().map(|_| BTreeMap::new()).collect();
+        Checker { random: Random::new(seed), groups, rows: Vec::new() }
+    }
+
+    /// Offers a call to the sample. Lists of calls are left out: each line gives the state of its call itself. So are
+    /// long calls that are refused unread.
+    pub fn call(&mut self, call: &Call) -> Go {
+        let lent = call.text.len().max(call.room);
+        let Some(class) = CLASSES.iter().position(|&(most, _)| lent <= most) else { return Ok(()) };
+        let words = model::answer(call, &mut Memory::for_call(call, 0));
+        let [refusal, alphabet, told] = group(call, &words);
+        if !call.steps.is_empty() || (class > 0 && refusal != 0 && refusal != 5) {
+            return Ok(());
+        }
+        let kept = self.groups[call.entry as usize].entry([class as u64, refusal, alphabet, told]).or_default();
+        kept.offered += 1;
+        if kept.calls.len() < CLASSES[class].1 {
+            kept.calls.push(call.clone());
+        } else if let Some(place) = kept.calls.get_mut(self.random.below(kept.offered) as usize) {
+            *place = call.clone();
+        }
+        Ok(())
+    }
+
+    /// Takes a row of the worked table, to which the model is held first.
+    pub fn row(&mut self, call: &Call, words: &[u64], bytes: &[u8]) -> Go {
+        let mut memory = Memory::for_call(call, 0);
+        let found = model::answer(call, &mut memory);
+        let same = found.starts_with(words) && memory.lent(0).starts_with(bytes);
+        assert!(same, "{call}: the model is not the worked table's {}", show_words(call.entry, words));
+        if call.steps.is_empty() {
+            self.rows.push(call.clone());
+        }
+        Ok(())
+    }
+
+    /// The calls of an entry point: its rows of the worked table, then one of each group in turn while there are any.
+    pub fn calls(&self, entry: Entry) -> Vec<&Call> {
+        let groups = &self.groups[entry as usize];
+        let rows = self.rows.iter().filter(|call| call.entry == entry);
+        let turns = (0..CLASSES[0].1).flat_map(|turn| groups.values().filter_map(move |kept| kept.calls.get(turn)));
+        let mut seen = HashSet::new();
+        rows.chain(turns).filter(|call| seen.insert(call.to_string())).take(LINES).collect()
+    }
+}
+
+/// What tells the groups of an entry point apart: the refusal, the alphabet or what stands for it, and what else the
+/// answer tells.
+fn group(call: &Call, words: &[u64]) -> [u64; 3] {
+    let refusal = if words.len() > 1 { words[0] } else { 0 };
+    let alphabet = match call.entry {
+        Entry::GuesserUpdate if refusal > 0 => 0,
+        Entry::GuessAlphabet | Entry::GuesserGuess | Entry::GuesserUpdate => words[1],
+        Entry::ByteRange => call.numbers[2].min(9),
+        _ => call.alphabet().map_or(0, |number| number.min(6)),
+    };
+    let told = match call.entry {
+        Entry::Contains | Entry::EncoderFinalize => words[1],
+        Entry::EncoderUpdate if refusal == 0 => words[6], // whether a non-member is known
+        Entry::StreamRead => words[3],                    // the status
+        Entry::ByteRange => u64::from(call.numbers[0] > call.numbers[1]),
+        _ if call.entry.shape().layer == Layer::Windows => words[1].min(1), // whether the answer is empty
+        _ => 0,
+    };
+    [refusal, alphabet, told]
+}
