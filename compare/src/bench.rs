@@ -1,23 +1,16 @@
 //! The benchmark: the port and the Rust original (plain release) in one process, in alternating rounds, beside a plain
 //! copy of as many bytes as the call writes. See ../README.md.
 
-// While a layer is absent from the archive, what only that layer uses stands idle.
-#![cfg_attr(not(all(have_alphabet, have_packing, have_windows, have_streaming, have_ending)), allow(dead_code, unused))]
-
 #[allow(dead_code)] // the benchmark calls only a part of it
 mod abi;
-#[cfg(have_alphabet)]
 #[path = "bench/alphabet.rs"]
 mod alphabet;
 #[path = "bench/measure.rs"]
 mod measure;
-#[cfg(have_packing)]
 #[path = "bench/packing.rs"]
 mod packing;
-#[cfg(have_streaming)]
 #[path = "bench/streaming.rs"]
 mod streaming;
-#[cfg(have_windows)]
 #[path = "bench/windows.rs"]
 mod windows;
 
@@ -84,14 +77,10 @@ fn main() -> ExitCode {
     };
     bench.header();
     let samples = samples(bench.long);
-    #[cfg(have_alphabet)]
     alphabet::rows(&mut bench);
     for sample in &samples {
-        #[cfg(have_packing)]
         packing::rows(&mut bench, sample);
-        #[cfg(have_windows)]
         windows::rows(&mut bench, sample);
-        #[cfg(have_streaming)]
         streaming::rows(&mut bench, sample);
     }
     match bench.finish() {

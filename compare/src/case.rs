@@ -13,19 +13,7 @@ pub enum Layer {
 }
 
 impl Layer {
-    pub const ALL: [Layer; 5] =
-        [Layer::Alphabet, Layer::Packing, Layer::Windows, Layer::Streaming, Layer::Ending];
-
-    /// Whether the archive that this program was linked with has the layer.
-    pub fn present(self) -> bool {
-        match self {
-            Layer::Alphabet => cfg!(have_alphabet),
-            Layer::Packing => cfg!(have_packing),
-            Layer::Windows => cfg!(have_windows),
-            Layer::Streaming => cfg!(have_streaming),
-            Layer::Ending => cfg!(have_ending),
-        }
-    }
+    pub const ALL: [Layer; 5] = [Layer::Alphabet, Layer::Packing, Layer::Windows, Layer::Streaming, Layer::Ending];
 }
 
 /// What an entry point takes and answers, as names.

@@ -1,24 +1,17 @@
 //! The comparison: the port's archive, the Rust original and a model of document 01 in one process. See ../README.md.
 
-// While a layer is absent from the archive, what only that layer uses stands idle.
-#![cfg_attr(not(all(have_alphabet, have_packing, have_windows, have_streaming, have_ending)), allow(dead_code, unused))]
-
 mod abi;
-#[cfg(have_alphabet)]
 mod alphabet;
 mod case;
 mod check;
 mod faults;
 mod model;
-#[cfg(have_packing)]
 mod packing;
 mod port;
 mod random;
 mod reference;
-#[cfg(have_streaming)]
 mod streaming;
 mod tally;
-#[cfg(have_windows)]
 mod windows;
 mod worked;
 
@@ -64,18 +57,11 @@ fn cases(layer: Layer, check: &mut Checker, options: &Options) -> Go {
     let random = &mut Random::new(options.seed ^ (layer as u64) << 32);
     let scale = options.scale;
     match layer {
-        #[cfg(have_alphabet)]
         Layer::Alphabet => alphabet::cases(check, random, scale),
-        #[cfg(have_packing)]
         Layer::Packing => packing::cases(check, random, scale),
-        #[cfg(have_windows)]
         Layer::Windows => windows::cases(check, random, scale),
-        #[cfg(have_streaming)]
         Layer::Streaming => streaming::cases(check, random, scale),
-        #[cfg(have_ending)]
         Layer::Ending => streaming::ends(check, random, scale),
-        #[allow(unreachable_patterns)] // reached only for a layer that the archive lacks
-        _ => Ok(()),
     }
 }
 
@@ -96,14 +82,10 @@ fn compare(options: &Options) -> bool {
     check.differences() == 0
 }
 
-/// Runs the cases against each planted fault; true if every fault of the layers present is noticed.
+/// Runs the cases against each planted fault; true if every fault is noticed.
 fn planted(options: &Options) -> bool {
-    let (mut noticed, mut missed, mut skipped) = (0, 0, 0);
+    let (mut noticed, mut missed) = (0, 0);
     for &(fault, layer, text) in Fault::ALL {
-        if !layer.present() {
-            skipped += 1;
-            continue;
-        }
         let mut check = Checker::new(options.seed, Some(fault));
         let _ = cases(layer, &mut check, options);
         match &check.noticed {
@@ -117,7 +99,7 @@ fn planted(options: &Options) -> bool {
             }
         }
     }
-    println!("planted faults: {noticed} noticed, {missed} not noticed, {skipped} of absent layers skipped");
+    println!("planted faults: {noticed} noticed, {missed} not noticed");
     missed == 0
 }
 

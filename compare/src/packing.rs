@@ -22,7 +22,8 @@ pub fn cases(check: &mut Checker, random: &mut Random, scale: u64) -> Go {
         }
     }
     beyond_alphabets(check, random)?;
-    byte_ranges(check, random, scale)
+    byte_ranges(check, random, scale)?;
+    (0..=5).try_for_each(|alphabet| long_runs(check, random, alphabet))
 }
 
 /// A fresh encoder has no input but its number, so the count of cases is the count of fills of memory.
@@ -76,6 +77,25 @@ fn strangers_at_every_place(check: &mut Checker, random: &mut Random, alphabet: 
                 let room = room_near(random, completed(&state, len));
                 check.call(&Call::new(Entry::EncoderUpdate, &state).text(&text).room(room))?;
             }
+        }
+    }
+    Ok(())
+}
+
+/// Long texts of bases, with another member and a non-member near the places where a search by blocks or by chunks turns.
+fn long_runs(check: &mut Checker, random: &mut Random, alphabet: u64) -> Go {
+    for len in [63, 64, 65, 128, 129, 4095, 4096, 4097, 4160, 8191, 8192, 8256, 8257] {
+        for place in [0, 7, 8, 63, 64, 127, 128, 4032, 4095, 4096, 4097, 4159, 4160, 8191, 8192, len - 1, len] {
+            let mut text: Vec<u8> = (0..len).map(|_| random.pick(b"ACGT")).collect();
+            if random.one_in(2) {
+                text[random.below(len as u64) as usize] = random.members(alphabet, 1)[0];
+            }
+            if place < len {
+                text[place] = random.stranger(alphabet);
+            }
+            check.call(&Call::new(Entry::EncodeSequence, &[alphabet]).text(&text).room(need(alphabet, len)))?;
+            let state = sound_state(random, alphabet);
+            check.call(&Call::new(Entry::EncoderUpdate, &state).text(&text).room(completed(&state, len)))?;
         }
     }
     Ok(())

@@ -6,16 +6,10 @@ use crate::faults::Fault;
 /// The answer of the port to a call. The memory is lent to the port as it is.
 pub fn answer(call: &Call, memory: &mut Memory, fault: Option<Fault>) -> Vec<u64> {
     match call.entry.shape().layer {
-        #[cfg(have_alphabet)]
         Layer::Alphabet => alphabet::answer(call, memory, fault),
-        #[cfg(have_packing)]
         Layer::Packing => packing::answer(call, memory, fault),
-        #[cfg(have_windows)]
         Layer::Windows => windows::answer(call, memory, fault),
-        #[cfg(have_streaming)]
         Layer::Streaming | Layer::Ending => streaming::answer(call, memory, fault),
-        #[allow(unreachable_patterns)] // reached only for a layer that the archive lacks
-        layer => unreachable!("{layer:?} is not in the archive"),
     }
 }
 
@@ -28,7 +22,6 @@ fn faulty(call: &Call, out: &mut [u8], fault: Option<Fault>, plain: fn(&Call, &m
     words
 }
 
-#[cfg(have_alphabet)]
 mod alphabet {
     use super::{faulty, Call, Fault, Memory};
     use crate::abi::{self, words, Guesser};
@@ -70,7 +63,6 @@ mod alphabet {
     }
 }
 
-#[cfg(have_packing)]
 mod packing {
     use super::{faulty, Call, Fault, Memory};
     use crate::abi::{self, words, Encoder};
@@ -128,7 +120,6 @@ mod packing {
     }
 }
 
-#[cfg(have_windows)]
 mod windows {
     use super::{faulty, Call, Fault, Memory};
     use crate::abi::{self, words, Engine, Window};
@@ -162,7 +153,6 @@ mod windows {
     }
 }
 
-#[cfg(have_streaming)]
 mod streaming {
     use super::{faulty, Call, Fault, Memory};
     use crate::abi::{self, words, Stream};
@@ -184,7 +174,6 @@ mod streaming {
             match call.entry {
                 Entry::StreamNew => words(abi::fc_stream_new(alphabet, skip, budget)),
                 Entry::StreamRead => words(abi::fc_stream_read(state, source, len, out.as_mut_ptr(), out.len())),
-                #[cfg(have_ending)]
                 Entry::StreamEnd => words(abi::fc_stream_end(state)),
                 _ => unreachable!("{:?}", call.entry),
             }

@@ -19,7 +19,6 @@ pub fn cases(check: &mut Checker, random: &mut Random, scale: u64) -> Go {
 }
 
 /// End calls from every small state, from random and forged ones, and with numbers that name no alphabet.
-#[cfg(have_ending)]
 pub fn ends(check: &mut Checker, random: &mut Random, scale: u64) -> Go {
     for alphabet in 0..=5 {
         for (skip, pending_bits) in skips() {
@@ -113,7 +112,6 @@ fn random_read(check: &mut Checker, random: &mut Random, alphabet: u64) -> Go {
     check.call(&Call::new(Entry::StreamRead, &state).text(&source).room(room))
 }
 
-#[cfg(have_ending)]
 fn random_end(check: &mut Checker, random: &mut Random, alphabet: u64) -> Go {
     let mut state = if random.one_in(4) { forged_state(random, alphabet) } else { sound_state(random, alphabet) };
     if random.one_in(2) {
@@ -151,10 +149,9 @@ fn every_cut(check: &mut Checker, random: &mut Random, alphabet: u64) -> Go {
     Ok(())
 }
 
-/// A read and, where the port has one, an end call.
+/// A read and an end call.
 fn with_end(length: usize, room: usize) -> Vec<Step> {
-    let ends = cfg!(have_ending).then_some(Step { length: 0, room: 0, last: true });
-    [Step { length, room, last: false }].into_iter().chain(ends).collect()
+    vec![Step { length, room, last: false }, Step { length: 0, room: 0, last: true }]
 }
 
 fn random_list(check: &mut Checker, random: &mut Random, alphabet: u64) -> Go {

@@ -4,13 +4,11 @@ use crate::case::{Call, Entry, Step};
 use crate::check::{Checker, Go};
 use crate::model::{DONE, FULL, HUNGRY, LIMIT};
 
-/// The rows of the layers present.
+/// All rows.
 pub fn rows(check: &mut Checker) -> Go {
     let rows = [guesses(), packings(), windows(), streams()].concat();
     for (call, words, bytes) in rows {
-        if call.entry.shape().layer.present() {
-            check.row(&call, &words, &bytes)?;
-        }
+        check.row(&call, &words, &bytes)?;
     }
     Ok(())
 }
@@ -69,13 +67,11 @@ fn windows() -> Vec<Row> {
 }
 
 fn streams() -> Vec<Row> {
-    // A read, then an end call where the port has one: four words each.
+    // A read, then an end call: four words each.
     let list = |numbers: [u64; 3], source: &[u8], room: usize, words: [u64; 8]| {
         let read = Step { length: source.len(), room, last: false };
         let end = Step { length: 0, room: 0, last: true };
-        let calls = if cfg!(have_ending) { 2 } else { 1 };
-        let steps = [read, end][..calls].to_vec();
-        (Call::new(Entry::StreamList, &numbers).text(source).steps(steps), words[..4 * calls].to_vec(), vec![])
+        (Call::new(Entry::StreamList, &numbers).text(source).steps(vec![read, end]), words.to_vec(), vec![])
     };
     let read = |state: [u64; 5], source: &[u8], room: usize, words: [u64; 4]| {
         (Call::new(Entry::StreamRead, &state).text(source).room(room), words.to_vec(), vec![])
