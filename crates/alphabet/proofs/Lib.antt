@@ -3,4 +3,5 @@ pub mod Laws
 pub mod Masks
 pub mod Calls
 pub mod Turns
+pub mod Runs
 pub mod Canon

@@ -1,4 +1,5 @@
 // The guesser: the first alphabet in the order that holds every byte of a text.
+use crate::bases::pass_bases;
 use crate::kind::AlphabetType;
 use crate::mask::ALPHABET_ORDER;
 use crate::mask::alphabet_mask;
@@ -93,7 +94,9 @@ fn scan(mask: u8, sequence: &[u8]) -> u8
         if GUESS_CHUNK < end - at {
             end = at + GUESS_CHUNK;
         }
-        for i in at..end {
+        // bases leave every mask as it is
+        let start = pass_bases(sequence, at, end);
+        for i in start..end {
             acc = acc & masks[place(sequence[i])];
             if acc == ASCII_BIT {
                 break 'scan;

@@ -1,10 +1,12 @@
 // The alphabets: symbols and codes, names and numbers, and the guess of a text's alphabet.
+mod bases;
 mod guesser;
 mod kind;
 mod mask;
 mod refusal;
 mod symbols;
 
+pub use bases::pass_bases;
 pub use guesser::AlphabetGuesser;
 pub use guesser::Guessed;
 pub use guesser::GuesserUpdated;

@@ -13,6 +13,7 @@ use Rattle.bits.specs.Tables.{tabulate, at}
 use Rattle.bits.specs.Streams.{bitAt, word, cut}
 use Rattle.bits.specs.Packing.{bytesFor, pack, firstByte, endByte, atHand}
 use Rattle.bits.specs.Memory.{front}
+use Rattle.bits.proofs.Computed.{both-true}
 use Rattle.bits.proofs.Tabulated.{length-tabulate, store}
 use Rattle.bits.proofs.Words.{word-lt}
 use Rattle.bits.proofs.Hand.{hand-lt, hand-head, hand-zero, hand-plain, word-pad, cut-ext}
@@ -80,10 +81,6 @@ start-refused n q e =
 and-false : (b : Bool) → b && false ≡ false
 and-false true = refl
 and-false false = refl
-
-pub both-true : (a b : Bool) → a && b ≡ true → (a ≡ true) × (b ≡ true)
-both-true true b e = (refl, e)
-both-true false b e = absurd (true≢false (sym e))
 
 -- what a sound state has
 pub record Sound (s : SequenceEncoder) : Type 0 where

@@ -1,23 +1,25 @@
 -- The search for the first non-member, and what it says of a text.
 use mathlib.Core.Path.{_≡_, refl, sym, ap, ap₂, subst, _∙_}
-use mathlib.Core.Bool.{Bool, true, false, cond, not, _||_, true≢false}
+use mathlib.Core.Bool.{Bool, true, false, cond, not, true≢false}
 use mathlib.Core.List.{List, [], _∷_}
 use mathlib.Core.Logic.{_⊎_}
 use Prim.Native.Nat.{ℕ, zero, suc, _+_, _-_, _≤_, _<_}
 use native.Mathlib.Nat.{add-zero, add-suc, suc-add, le-of-suc-le-suc, not-suc-le-zero}
 use native.Mathlib.Decide.{decLt}
 use native.Mathlib.Omega.{arith}
-use borrow.Author.Tests.{eqb-true, eq-eqb, ne-eqb}
+use borrow.Author.Tests.{eq-eqb, ne-eqb}
 use lib.Dec.{eqb}
 use lib.ListN.{length}
 use Rattle.bits.specs.Tables.{tabulate, at, Bytes}
 use Rattle.bits.proofs.Tabulated.{getD-tabulate}
 use Rattle.alphabet.specs.declared.kind.AlphabetType.{AlphabetType}
 use Rattle.alphabet.specs.Symbols.{Coding, coding}
+use Rattle.alphabet.specs.Bases.{Run}
+use Rattle.alphabet.proofs.Runs.{one-of-four}
 use Rattle.alphabet.proofs.Laws.{Packed, Plain, shape}
 use Rattle.packing.specs.declared.first.First.{First}
 use Rattle.packing.specs.Encode.{firstFrom}
-use Rattle.packing.specs.Run.{Passed, Searched, base, Bases, Usual}
+use Rattle.packing.specs.Run.{Passed, Searched, Usual}
 
 -- n bytes more without the entry FF
 pub passed-more : (table text : List ℕ) (i n : ℕ) → Passed table text i → ((j : ℕ) → j < n → at table (at text (i + j)) ≡ 0xff → ⊥) → Passed table text (i + n)
@@ -29,33 +31,15 @@ passed-more table text i n p more j h e = go (decLt j i)
         let same : i + (j - i) ≡ j = omega arith in
         more (j - i) (omega arith) (ap (λ (x : ℕ). at table (at text x)) same ∙ e)
 
--- n bases more are bases, and where no base has the entry FF they are passed
-pub bases-more : (text : List ℕ) (i m n : ℕ) → Bases text i m → Bases text (i + m) n → Bases text i (m + n)
-bases-more text i m n p more = record { each = λ j h. go j h (decLt j m) }
-  where
-    go : (j : ℕ) → j < m + n → Dec (j < m) → base (at text (i + j)) ≡ true
-    go j h (yes l) = p .each j l
-    go j h (no k) =
-        let same : (i + m) + (j - m) ≡ i + j = omega arith in
-        ap (λ (x : ℕ). base (at text x)) (sym same) ∙ more .each (j - m) (omega arith)
-
-either : {P : Type 0} (t u : Bool) → (t ≡ true → P) → (u ≡ true → P) → t || u ≡ true → P
-either true u f g e = f refl
-either false u f g e = g e
-
 -- four entries that are not FF are all that matters
 pub usual : (table : List ℕ) → (at table 65 ≡ 0xff → ⊥) → (at table 67 ≡ 0xff → ⊥) → (at table 71 ≡ 0xff → ⊥) → (at table 84 ≡ 0xff → ⊥) → Usual table
-usual table a c g t = record { entry = λ x h e. go x e h }
-  where
-    go : (x : ℕ) → at table x ≡ 0xff → base x ≡ true → ⊥
-    go x e =
-        let no : (k : ℕ) → (at table k ≡ 0xff → ⊥) → eqb x k ≡ true → ⊥ = λ k f q. f (ap (at table) (sym (eqb-true x k q)) ∙ e) in
-        either ((eqb x 65 || eqb x 67) || eqb x 71) (eqb x 84) (either (eqb x 65 || eqb x 67) (eqb x 71) (either (eqb x 65) (eqb x 67) (no 65 a) (no 67 c)) (no 71 g)) (no 84 t)
+usual table a c g t = record { entry = one-of-four (λ (x : ℕ). at table x ≡ 0xff → ⊥) a c g t }
 
-pub passed-bases : (table text : List ℕ) (i r : ℕ) → i ≤ r → Usual table → Passed table text i → Bases text i (r - i) → Passed table text r
-passed-bases table text i r l usual p bases =
-    let same : i + (r - i) ≡ r = omega arith in
-    subst (λ (x : ℕ). Passed table text x) same (passed-more table text i (r - i) p (λ j h. usual .entry (at text (i + j)) (bases .each j h)))
+-- a run of bases is passed where no base has the entry FF
+pub passed-bases : (table text : List ℕ) (start end r : ℕ) → Usual table → Passed table text start → Run text start end r → Passed table text r
+passed-bases table text start end r usual p run =
+    let same : start + (r - start) ≡ r = omega (arith, run .from) in
+    subst (λ (x : ℕ). Passed table text x) same (passed-more table text start (r - start) p (λ j h. usual .entry (at text (start + j)) (run .bases .each j h)))
 
 module _ (A : Coding) where
   -- every byte is a member

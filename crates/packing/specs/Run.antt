@@ -2,15 +2,15 @@
 -- contract between them and the loop, which knows a table and no alphabet.
 use Prim.Native.Nat.{ℕ, _+_, _-_, _*_, _/_, _%_, _^_, _≤_, _<_}
 use mathlib.Core.Path.{_≡_}
-use mathlib.Core.Bool.{Bool, true, _||_}
+use mathlib.Core.Bool.{true}
 use mathlib.Core.List.{List, map, _++_}
-use lib.Dec.{eqb}
 use lib.ListN.{length, take, drop}
 use Rattle.bits.specs.Tables.{at, tabulate}
 use Rattle.bits.specs.Streams.{word, cut}
 use Rattle.bits.specs.Packing.{atHand}
 use Rattle.bits.specs.Memory.{front}
 use Rattle.alphabet.specs.Questions.{limit}
+use Rattle.alphabet.specs.Bases.{base}
 
 -- p bits of value a pend, and there is memory for the bytes that n digits of b bits complete
 pub record Ready (b p a n room : ℕ) : Type 0 where
@@ -52,14 +52,6 @@ pub record Searched (table text : List ℕ) (n r : ℕ) : Type 0 where
 -- r is FF if one of the n entries from place i on is FF
 pub record Overlaid (table text : List ℕ) (i n r : ℕ) : Type 0 where
   pub told : (j : ℕ) → j < n → at table (at text (i + j)) ≡ 0xff → r ≡ 0xff
-
--- the bytes A, C, G and T
-abbrev pub base : ℕ → Bool
-base x = ((eqb x 65 || eqb x 67) || eqb x 71) || eqb x 84
-
--- the n bytes from place i on are bases
-pub record Bases (text : List ℕ) (i n : ℕ) : Type 0 where
-  pub each : (j : ℕ) → j < n → base (at text (i + j)) ≡ true
 
 -- no base has the entry FF
 pub record Usual (table : List ℕ) : Type 0 where

@@ -2,16 +2,17 @@
 use crate::words::over;
 use alphabet::AlphabetType;
 use alphabet::INVALID_CODE;
+use alphabet::pass_bases;
 use bits::place;
 ghost use mathlib.Core.Path.{_≡_};
 ghost use mathlib.Core.Bool.{true};
-ghost use Prim.Native.Nat.{_+_, _-_, _≤_};
+ghost use Prim.Native.Nat.{_+_, _≤_};
 ghost use lib.ListN.{length};
 ghost use Rattle.bits.specs.Tables.{tabulate};
 ghost use Rattle.alphabet.specs.Symbols.{coding};
 ghost use Rattle.alphabet.specs.Questions.{limit};
 ghost use Rattle.packing.specs.Encode.{firstFrom, orFirst};
-ghost use Rattle.packing.specs.Run.{Passed, Overlaid, Searched, base, Bases, Usual};
+ghost use Rattle.packing.specs.Run.{Passed, Overlaid, Searched, Usual};
 
 // A non-member's position and byte, where there is one.
 pub enum First {
@@ -21,40 +22,6 @@ pub enum First {
 
 // The search goes by chunks, so that a run of other symbols slows no more than the chunks that it stands in.
 const CHUNK: usize = 4096;
-
-// Whether a byte is one of the four bases, of which most genomes are nearly all made.
-fn is_base(x: u8) -> bool
-    ensures { λ r. ⌜ r ≡ base x ⌝ }
-{
-    (x == b'A') | (x == b'C') | (x == b'G') | (x == b'T')
-}
-
-// Whether 64 bytes, from byte i on, are bases. It leaves no byte out and stops at none, so that the compiler may test many at once.
-fn are_bases(text: &[u8], i: usize) -> bool
-    requires { ⌜ i + 64 ≤ length (now text) ⌝ }
-    ensures { λ r. ⌜ (r ≡ true → Bases (now (text .entry)) i 64) ⌝ }
-{
-    let mut all = true;
-    for j in 0..64 {
-        all = all & is_base(text[i + j]);
-    }
-    all
-}
-
-// Passes bases from `start` on, 64 at a time, and stops no later than `end`.
-fn pass_bases(text: &[u8], start: usize, end: usize) -> usize
-    requires { ⌜ (start ≤ end) × (end ≤ length (now text)) ⌝ }
-    ensures { λ r. ⌜ (start ≤ r) × ((r ≤ end) × Bases (now (text .entry)) start (r - start)) ⌝ }
-{
-    let mut i = start;
-    while 64 <= end - i {
-        if !are_bases(text, i) {
-            return i;
-        }
-        i += 64;
-    }
-    i
-}
 
 // Whether every base is a member.
 fn holds_bases(table: &[u8; 256]) -> bool

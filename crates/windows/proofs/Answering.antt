@@ -11,6 +11,7 @@ use lib.ListN.{length, getD, List·getD-eq-default}
 use Rattle.bits.specs.Tables.{tabulate}
 use Rattle.bits.specs.Packing.{firstByte, endByte}
 use Rattle.bits.specs.Memory.{front, putAt}
+use Rattle.bits.proofs.Computed.{both-true}
 use Rattle.bits.proofs.Put.{put-front}
 use Rattle.alphabet.specs.Questions.{ask_else_then_, by, inBounds}
 use Rattle.alphabet.specs.Symbols.{Coding, coding}
@@ -35,10 +36,6 @@ passed : (t : Bool) (no-answer rest : Read) (n : ℕ) → counted no-answer ≡ 
 passed true no-answer rest n z h e = (refl, e)
 passed false no-answer rest n z h e = absurd (omega arith)
 
-both : (a b : Bool) → a && b ≡ true → (a ≡ true) × (b ≡ true)
-both true b e = (refl, e)
-both false b e = let q : _≡_ {A = ℕ} 0 1 = cc in absurd (omega arith)
-
 -- the last question
 last : (start end room n : ℕ) → ltb start end ≡ true → inBounds end ≡ true → leb (end - start) room ≡ true → end - start ≡ n → Fits start n 0 room
 last start end room n some near space count =
@@ -52,7 +49,7 @@ accepted alphabet offset start end room r n e told z =
     let p₂ = passed (known alphabet) _ _ n refl h (p₁ .1) in
     let p₃ = passed (inBounds end && inBounds offset) _ _ n refl h (p₂ .1) in
     let p₄ = passed (leb (end - start) room) _ _ n refl h (p₃ .1) in
-    last start end room n (p₁ .0) (both (inBounds end) (inBounds offset) (p₃ .0) .0) (p₄ .0) (p₄ .1)
+    last start end room n (p₁ .0) (both-true (inBounds end) (inBounds offset) (p₃ .0) .0) (p₄ .0) (p₄ .1)
 
 pub covered-accepted : (alphabet : ℕ) (lent : List ℕ) (offset start end room : ℕ) (r : Read) (n : ℕ) → r ≡ coveredAt alphabet lent offset start end room → r ≡ Read.Bases n → (n ≡ 0 → ⊥) → Fits start n 0 room
 unfolding coveredAt
@@ -63,7 +60,7 @@ covered-accepted alphabet lent offset start end room r n e told z =
     let p₃ = passed (inBounds end && inBounds offset) _ _ n refl h (p₂ .1) in
     let p₄ = passed (covers (numbered alphabet) lent offset start end) _ _ n refl h (p₃ .1) in
     let p₅ = passed (leb (end - start) room) _ _ n refl h (p₄ .1) in
-    last start end room n (p₁ .0) (both (inBounds end) (inBounds offset) (p₃ .0) .0) (p₅ .0) (p₅ .1)
+    last start end room n (p₁ .0) (both-true (inBounds end) (inBounds offset) (p₃ .0) .0) (p₅ .0) (p₅ .1)
 
 -- ---- memory afterwards
 
@@ -236,7 +233,7 @@ module _ {alphabet offset start end n : ℕ} (w : Placed alphabet offset start e
   placed-some = ltb-true start end (w .some)
 
   pub placed-near : end ≤ 2 ^ 60
-  placed-near = leb-true end (2 ^ 60) (both (inBounds end) (inBounds offset) (w .near) .0)
+  placed-near = leb-true end (2 ^ 60) (both-true (inBounds end) (inBounds offset) (w .near) .0)
 
   module _ (lent : List ℕ) (room : ℕ) where
     pub covered-not : covers (numbered alphabet) lent offset start end ≡ false → Read.Refused (by 3 []) ≡ coveredAt alphabet lent offset start end room

@@ -12,6 +12,7 @@ use lib.Seq.{length-take-le, getD-take, getD-drop}
 use Rattle.bits.specs.Tables.{tabulate, at}
 use Rattle.bits.specs.Streams.{bitAt, word, cut}
 use Rattle.bits.specs.Packing.{pack, fileByte, codesFrom, firstByte, endByte}
+use Rattle.bits.proofs.Computed.{both-true}
 use Rattle.bits.proofs.Tabulated.{length-tabulate, tabulate-ext, tabulate-add, is-tabulate, getD-within}
 use Rattle.bits.proofs.Words.{word-ext, bit-cong}
 use Rattle.bits.proofs.Files.{file-lent}
@@ -105,10 +106,6 @@ window-of-text A law text lent offset start n room members own =
     ∙ map-tabulate (A .symbol) (λ i. at (map (A .code) text) (start + i) % 2 ^ b) n
     ∙ tabulate-ext n (λ i. A .symbol (at (map (A .code) text) (start + i) % 2 ^ b)) (λ i. A .canon (at text (start + i))) coded
     ∙ sym (is-tabulate n (λ i. A .canon (at text (start + i))) (A .canon 0) (map (A .canon) part) (length-map part (A .canon) ∙ len) given)
-
-both-true : (a b : Bool) → a && b ≡ true → (a ≡ true) × (b ≡ true)
-both-true true b e = (refl, e)
-both-true false b e = let q : _≡_ {A = ℕ} 0 1 = cc in absurd (omega arith)
 
 before-byte : (s k offset : ℕ) → s ≤ k → offset ≤ s / 8 → offset ≤ k / 8
 before-byte s k offset h l = omega arith

@@ -6,10 +6,10 @@ use native.Mathlib.Omega.{arith}
 use borrow.Author.Count.{below-more}
 use borrow.Author.Needs.{needs}
 use Rattle.bits.specs.Tables.{at}
-use Rattle.packing.specs.Run.{base, Bases}
-use Rattle.packing.proofs.Ends.{both-true}
-use Rattle.packing.proofs.first.are_bases.Statement.{statement}
-use Rattle.packing.proofs.first.are_bases.Tie as tie
+use Rattle.alphabet.specs.Bases.{base, Bases}
+use Rattle.bits.proofs.Computed.{both-true}
+use Rattle.alphabet.proofs.bases.are_bases.Statement.{statement}
+use Rattle.alphabet.proofs.bases.are_bases.Tie as tie
 
 abbrev Inv-loop : tie.InvT-loop
 Inv-loop text i all₀ j₀ all j = (j ≤ 64) × (all ≡ true → Bases text i j)
