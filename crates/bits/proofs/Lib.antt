@@ -1,5 +1,6 @@
 pub mod Tabulated
 pub mod Computed
+pub mod Shifts
 pub mod Words
 pub mod Packed
 pub mod Hand

@@ -1,4 +1,3 @@
-pub mod Shifts
 pub mod Hand
 pub mod Greatest
 pub mod Levels

@@ -124,7 +124,8 @@ pub fn decode_covered(
             if count == 0 {
                 return Read::Bases(0);
             }
-            written(kind_of(alphabet), bytes, byte_offset, start, count, out);
+            let kind = kind_of(alphabet);
+            written(kind, bytes, byte_offset, start, count, out);
             Read::Bases(count)
         }
         Read::Refused(q) => Read::Refused(q),

@@ -2,7 +2,7 @@ use mathlib.Core.Path.{sym}
 use native.Mathlib.Omega.{arith}
 use borrow.Author.Needs.{needs}
 use borrow.Author.Tests.{eq-eqb, ne-eqb}
-use Rattle.streaming.proofs.Shifts.{one-shl}
+use Rattle.bits.proofs.Shifts.{one-shl}
 use Rattle.streaming.proofs.Calls.{sound-last, unsound-skip, unsound-bits, unsound-pending}
 use Rattle.streaming.proofs.decoder.StreamingDecoder.is_sound.Statement.{statement}
 use Rattle.streaming.proofs.decoder.StreamingDecoder.is_sound.Tie as tie
