@@ -9,6 +9,17 @@
 //! count, and leaves every other byte as it was. A call that is refused says why ([`Error`], with the rules' number) and
 //! has changed nothing. Nothing is global: any thread may call anything.
 //!
+//! Input and output memory of one call must not overlap: the bases would be wrong, and no refusal would tell. The borrow
+//! checker shuts it out, and only a caller of [`raw`] must see to it:
+//!
+//! ```compile_fail,E0502
+//! use fantailclock::{encode_sequence_into, Alphabet};
+//!
+//! let mut memory = *b"ACGTACGT";
+//! encode_sequence_into(Alphabet::Dna2bit, &memory[..5], &mut memory[4..])?;
+//! # Ok::<(), fantailclock::Error>(())
+//! ```
+//!
 //! ```
 //! use fantailclock::{byte_range_for_bases, decode_covered, encode_sequence, guess_alphabet};
 //!
@@ -21,7 +32,7 @@
 //! # Ok::<(), fantailclock::Error>(())
 //! ```
 
-#![deny(warnings, missing_docs)]
+#![warn(missing_docs)]
 
 mod alphabet;
 mod error;
@@ -33,7 +44,7 @@ mod windows;
 
 pub use alphabet::{guess_alphabet, Alphabet, Guesser};
 pub use error::{Error, Result};
-pub use packing::{byte_range_for_bases, encode_sequence, encode_sequence_into, SequenceEncoder};
+pub use packing::{byte_range_for_bases, encode_sequence, encode_sequence_into, FinalizeError, SequenceEncoder};
 pub use streaming::{Status, Stream, Streamed, StreamingDecoder};
 pub use windows::*;
 

@@ -2,7 +2,8 @@
 
 use crate::error::accepted;
 use crate::memory::owned;
-use crate::{raw, Alphabet, Result};
+use crate::{raw, Alphabet, Error, Result};
+use std::fmt;
 use std::ops::Range;
 
 /// The count of an answer of the packing calls.
@@ -39,7 +40,9 @@ pub fn encode_sequence(alphabet: Alphabet, text: &[u8]) -> Result<Vec<u8>> {
 ///
 /// Each `update` gives the bytes that its piece completes, `finalize` the last one where bits pend; joined they are what
 /// [`encode_sequence`] gives for the pieces joined. A byte that is no member is reported by `finalize`, with its position
-/// over all pieces. A refused call leaves the encoder as it was.
+/// over all pieces. A refused `update` leaves the encoder as it was.
+///
+/// `finalize` ends the text and takes the encoder; a refused one hands it back ([`FinalizeError`]).
 ///
 /// ```
 /// use fantailclock::{Alphabet, SequenceEncoder};
@@ -49,6 +52,18 @@ pub fn encode_sequence(alphabet: Alphabet, text: &[u8]) -> Result<Vec<u8>> {
 /// packed.extend(encoder.update(b"RYU")?);
 /// packed.extend(encoder.finalize()?);
 /// assert_eq!(packed, [0x05, 0x39, 0x77]);
+/// # Ok::<(), fantailclock::Error>(())
+/// ```
+///
+/// An ended text takes no more pieces, which would give bytes that are no packing:
+///
+/// ```compile_fail,E0382
+/// use fantailclock::{Alphabet, SequenceEncoder};
+///
+/// let mut encoder = SequenceEncoder::new(Alphabet::Dna2bit);
+/// encoder.update(b"ACGTA")?;
+/// encoder.finalize()?;
+/// encoder.update(b"CGT")?;
 /// # Ok::<(), fantailclock::Error>(())
 /// ```
 #[derive(Clone, Debug, PartialEq, Eq)]
@@ -93,20 +108,77 @@ impl SequenceEncoder {
         owned(room, |out| self.update_into(piece, out))
     }
 
-    /// Writes the last byte to the front of `out` where bits pend, with zeros behind them, and answers 1, else 0.
+    /// Ends the text: writes the last byte to the front of `out` where bits pend, with zeros behind them, and answers 1,
+    /// else 0.
     ///
-    /// Refuses a text with a byte that is no member, then memory that is too short. An accepted call ends the text;
-    /// after a refused one the encoder may go on.
-    pub fn finalize_into(&self, out: &mut [u8]) -> Result<usize> {
+    /// Refuses a text with a byte that is no member, then memory that is too short; the encoder is in the error then, and
+    /// may go on.
+    ///
+    /// ```
+    /// use fantailclock::{Alphabet, Error, SequenceEncoder};
+    ///
+    /// let mut encoder = SequenceEncoder::new(Alphabet::Dna2bit);
+    /// encoder.update(b"ACGTA")?;
+    /// let refused = encoder.finalize_into(&mut []).unwrap_err();
+    /// assert_eq!(refused.error(), Error::ShortMemory);
+    /// let mut last = [0];
+    /// assert_eq!(refused.into_encoder().finalize_into(&mut last)?, 1);
+    /// assert_eq!(last, [0x80]);
+    /// # Ok::<(), Error>(())
+    /// ```
+    pub fn finalize_into(self, out: &mut [u8]) -> std::result::Result<usize, FinalizeError> {
         // SAFETY: the memory is lent with its length.
-        packed(unsafe { raw::fc_encoder_finalize(self.state, out.as_mut_ptr(), out.len()) })
+        let answer = unsafe { raw::fc_encoder_finalize(self.state, out.as_mut_ptr(), out.len()) };
+        packed(answer).map_err(|error| FinalizeError { error, encoder: self })
     }
 
-    /// Gives the last byte where bits pend, else nothing.
-    pub fn finalize(&self) -> Result<Vec<u8>> {
-        owned(1, |out| self.finalize_into(out))
+    /// Ends the text and gives the last byte where bits pend, else nothing. Refuses a text with a byte that is no member.
+    pub fn finalize(self) -> std::result::Result<Vec<u8>, FinalizeError> {
+        let mut last = [0];
+        let count = self.finalize_into(&mut last)?;
+        Ok(last[..count].to_vec())
     }
 }
+
+/// A `finalize` that was refused: why, and the encoder as it was.
+///
+/// With `?` it turns into an [`Error`], and the encoder is dropped.
+#[derive(Clone, Debug, PartialEq, Eq)]
+pub struct FinalizeError {
+    error: Error,
+    encoder: SequenceEncoder,
+}
+
+impl FinalizeError {
+    /// Why it was refused.
+    pub fn error(&self) -> Error {
+        self.error
+    }
+
+    /// The encoder, which may go on.
+    pub fn into_encoder(self) -> SequenceEncoder {
+        self.encoder
+    }
+
+    /// Both.
+    pub fn into_parts(self) -> (Error, SequenceEncoder) {
+        (self.error, self.encoder)
+    }
+}
+
+impl From<FinalizeError> for Error {
+    fn from(refused: FinalizeError) -> Error {
+        refused.error
+    }
+}
+
+impl fmt::Display for FinalizeError {
+    fn fmt(&self, f: &mut fmt::Formatter<'_>) -> fmt::Result {
+        self.error.fmt(f)
+    }
+}
+
+impl std::error::Error for FinalizeError {}
 
 /// The bytes of a packed file that hold the bases from `start` to `end`, not including `end`, at so many bits per symbol;
 /// the same formula where start exceeds end. Refuses more than 8 bits, then positions above 2^60.

@@ -1,8 +1,13 @@
 //! The C ABI as it is: the structs and functions of include/fantailclock.h, under the same names.
 //!
 //! Every number is 64 bits wide; structs go in and come back by value, and a host may forge any of them: each call tests
-//! the state that it is handed. A pointer with a length names memory that the caller owns; it must not be null, even for
-//! a length of 0, and input and output memory of one call must not overlap.
+//! the state that it is handed.
+//!
+//! # Safety
+//!
+//! A pointer with a length names memory that the caller owns; where the length is 0 nothing is read or written through it,
+//! and it may be null. Input and output memory of one call must not overlap: the bases would be wrong, and no refusal
+//! would tell.
 
 macro_rules! structs {
     ($($(#[$about:meta])* $name:ident { $($field:ident: $kind:ty),* })*) => {$(

@@ -116,7 +116,9 @@ const CHUNK: usize = 8192;
 /// A window's bases, read from any source of its packed bytes.
 ///
 /// Of the source it reads just the bytes that the bases asked for need, nothing ahead, so small reads are best asked of a
-/// buffered source. Where the source ends with bases outstanding, the bases that it gave are handed out first; then every
+/// buffered source. To go base by base use `BufReader::new(decoder).bytes()`, a nanosecond each: it reads ahead, though never
+/// a byte beyond the window; `.bytes()` of the decoder itself makes a call of the library for each base, which costs 70 times
+/// as much. Where the source ends with bases outstanding, the bases that it gave are handed out first; then every
 /// read is an error of kind `UnexpectedEof` that holds [`Error::Outstanding`]. An `Ok(0)` for a buffer with room thus
 /// means that the whole window was read.
 ///
@@ -137,18 +139,20 @@ const CHUNK: usize = 8192;
 pub struct StreamingDecoder<R> {
     inner: R,
     stream: Stream,
+    chunk: Vec<u8>, // what the source is read into; as long as the longest fetch so far, so that it is zeroed once
 }
 
 impl<R: Read> StreamingDecoder<R> {
     /// A decoder of a source that begins with `leading_skip_bits` bits to be passed over, 0 to 7, and then holds
     /// `bases_to_emit` bases. Refuses a skip above 7.
     pub fn new(inner: R, alphabet: Alphabet, leading_skip_bits: u8, bases_to_emit: u64) -> Result<StreamingDecoder<R>> {
-        Ok(StreamingDecoder { inner, stream: Stream::new(alphabet, u64::from(leading_skip_bits), bases_to_emit)? })
+        let stream = Stream::new(alphabet, u64::from(leading_skip_bits), bases_to_emit)?;
+        Ok(StreamingDecoder { inner, stream, chunk: Vec::new() })
     }
 
     /// A decoder of the bases from `start` to `end`; the source begins at the first byte of [`byte_range_for_bases`].
     pub fn for_window(inner: R, alphabet: Alphabet, start: u64, end: u64) -> Result<StreamingDecoder<R>> {
-        Ok(StreamingDecoder { inner, stream: Stream::for_window(alphabet, start, end)? })
+        Ok(StreamingDecoder { inner, stream: Stream::for_window(alphabet, start, end)?, chunk: Vec::new() })
     }
 
     /// The stream as it stands; its `end` says whether the window is complete.
@@ -166,11 +170,17 @@ impl<R: Read> StreamingDecoder<R> {
         self.inner
     }
 
-    /// Reads at most `most` source bytes; 0 at the source's end, and where nothing is asked.
-    fn fetch(&mut self, chunk: &mut [u8], most: u64) -> io::Result<usize> {
-        let most = most.min(chunk.len() as u64) as usize;
+    /// Reads at most `most` source bytes into the chunk; 0 at the source's end, and where nothing is asked.
+    fn fetch(&mut self, most: u64) -> io::Result<usize> {
+        let most = most.min(CHUNK as u64) as usize;
+        if most == 0 {
+            return Ok(0);
+        }
+        if self.chunk.len() < most {
+            self.chunk.resize(most, 0);
+        }
         loop {
-            match self.inner.read(&mut chunk[..most]) {
+            match self.inner.read(&mut self.chunk[..most]) {
                 Err(error) if error.kind() == io::ErrorKind::Interrupted => {}
                 answer => return answer,
             }
@@ -182,12 +192,11 @@ impl<R: Read> Read for StreamingDecoder<R> {
     /// One source read that gives a base is enough for an answer, so an error of the source never loses a base.
     fn read(&mut self, buf: &mut [u8]) -> io::Result<usize> {
         let refused = |refusal: Error| io::Error::new(io::ErrorKind::InvalidInput, refusal);
-        let mut chunk = [0; CHUNK];
         let asked = buf.len().min(8 * CHUNK) as u64; // a chunk holds no more bases than it has bits
         loop {
             let needed = self.stream.bytes_needed(asked).map_err(refused)?;
-            let fetched = if needed == 0 { 0 } else { self.fetch(&mut chunk, needed)? };
-            let step = self.stream.read(&chunk[..fetched], buf).map_err(refused)?;
+            let fetched = self.fetch(needed)?;
+            let step = self.stream.read(&self.chunk[..fetched], buf).map_err(refused)?;
             assert_eq!(step.taken, fetched, "bytes were read that no base needed");
             self.stream = step.next;
             if step.written > 0 || step.status != Status::Hungry {

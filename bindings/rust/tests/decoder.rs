@@ -3,7 +3,7 @@
 mod support;
 
 use fantailclock::*;
-use std::io::{self, ErrorKind, Read};
+use std::io::{self, BufReader, ErrorKind, Read};
 use support::model;
 use support::random::Random;
 
@@ -159,6 +159,32 @@ fn a_skip_is_due_even_with_no_base() {
 }
 
 #[test]
+fn a_window_base_by_base() {
+    windows(|alphabet, file, start, end| {
+        let (from, to) = range(alphabet, start, end);
+        let expected = model::unpack(alphabet, file, 0, start, end);
+        let needed = if start < end { to - from } else { 0 };
+        let mut source = Source::new(&file[from..], usize::MAX);
+        let decoder = StreamingDecoder::for_window(&mut source, alphabet, start, end).unwrap();
+        assert!(decoder.bytes().map(io::Result::unwrap).eq(expected.iter().copied()), "{alphabet} {start} {end}");
+        assert_eq!(source.given, needed);
+        let mut source = Source::new(&file[from..], usize::MAX);
+        let decoder = StreamingDecoder::for_window(&mut source, alphabet, start, end).unwrap();
+        let buffered = BufReader::new(decoder).bytes().map(io::Result::unwrap);
+        assert!(buffered.eq(expected.iter().copied()), "{alphabet} {start} {end}, buffered");
+        assert_eq!(source.given, needed, "a buffer over the decoder reads ahead, but not beyond the window");
+    });
+}
+
+#[test]
+fn a_short_source_base_by_base() {
+    let mut bases = StreamingDecoder::for_window(&[0x1B, 0x1B][..], Alphabet::Dna2bit, 1, 9).unwrap().bytes();
+    let found: Vec<u8> = bases.by_ref().map_while(io::Result::ok).collect();
+    assert_eq!(found, b"CAGTCAG");
+    assert_eq!(bases.next().unwrap().unwrap_err().kind(), ErrorKind::UnexpectedEof, "and again");
+}
+
+#[test]
 fn vectors_are_what_lent_memory_gets() {
     let mut random = Random(4);
     for alphabet in Alphabet::ALL {
@@ -226,5 +252,38 @@ fn a_refused_update_leaves_the_encoder_as_it_was() {
     assert_eq!(encoder, before);
     assert_eq!(encoder.update(b"T").unwrap(), [0x9C]);
     assert_eq!(encoder.update(b"acgt").unwrap(), [0xFF], "non-members pack as ones");
-    assert_eq!(encoder.finalize(), Err(Error::NotMember { position: 2, byte: b'N' }));
+    let refused = encoder.clone().finalize().unwrap_err();
+    assert_eq!(refused.error(), Error::NotMember { position: 2, byte: b'N' });
+    assert_eq!(refused.into_encoder(), encoder, "a refused one is handed back as it was");
+}
+
+#[test]
+fn a_refused_finalize_hands_the_encoder_back() {
+    let mut encoder = SequenceEncoder::new(Alphabet::Dna2bit);
+    assert_eq!(encoder.update(b"ACGTA").unwrap(), [0x9C]);
+    let before = encoder.clone();
+    let (error, mut encoder) = encoder.finalize_into(&mut []).unwrap_err().into_parts();
+    assert_eq!((error, &encoder), (Error::ShortMemory, &before));
+    assert_eq!(encoder.update(b"CGT").unwrap(), [0x9C], "the text goes on");
+    assert_eq!(encoder.finalize().unwrap(), []);
+    assert_eq!(before.finalize().unwrap(), [0x80]);
+}
+
+#[test]
+fn a_refused_finalize_is_an_error_by_the_question_mark() {
+    fn plain(text: &[u8]) -> Result<Vec<u8>> {
+        let mut encoder = SequenceEncoder::new(Alphabet::Dna2bit);
+        let mut packed = encoder.update(text)?;
+        packed.extend(encoder.finalize()?);
+        Ok(packed)
+    }
+    fn boxed(text: &[u8]) -> std::result::Result<usize, Box<dyn std::error::Error>> {
+        let mut encoder = SequenceEncoder::new(Alphabet::Dna2bit);
+        encoder.update(text)?;
+        Ok(encoder.finalize_into(&mut [0])?)
+    }
+    assert_eq!(plain(b"ACGTA"), Ok(vec![0x9C, 0x80]));
+    assert_eq!(plain(b"ACN"), Err(Error::NotMember { position: 2, byte: b'N' }));
+    assert_eq!(boxed(b"A").unwrap(), 1);
+    assert_eq!(boxed(b"N").unwrap_err().to_string(), "refused by 5: byte 4E at position 0 is no member");
 }

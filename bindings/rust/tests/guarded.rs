@@ -108,7 +108,7 @@ fn pieces(harness: &mut Harness, alphabet: Alphabet, text: &[u8], before: usize)
             input: &[],
             room,
             expected: fitting(&packed[to..], room),
-            call: &|_, out| encoder.finalize_into(out),
+            call: &|_, out| Ok(encoder.clone().finalize_into(out)?),
         });
     }
 }

@@ -2,7 +2,7 @@
 
 mod support;
 
-use fantailclock::{raw, Alphabet, Error, Guesser, SequenceEncoder, Status, Stream};
+use fantailclock::{raw, Alphabet, Error, FinalizeError, Guesser, SequenceEncoder, Status, Stream};
 use support::table::{number, rows, Row, STATES};
 
 const PATTERN: [u8; 8] = [0xC3; 8];
@@ -111,7 +111,8 @@ fn refused_pieces(row: &Row, state: raw::Encoder) {
 fn last_byte(row: &Row, state: raw::Encoder) {
     let mut out = PATTERN;
     let mut after = PATTERN;
-    let answer = SequenceEncoder::from_raw(state).finalize_into(&mut out);
+    let answer =
+        SequenceEncoder::from_raw(state).finalize_into(&mut out).map_err(|refused| handed_back(refused, state));
     let bad = Error::NotMember { position: state.bad_position, byte: state.bad_byte as u8 };
     let wanted = match expected(row) {
         Err(refusal) => Err(refusal),
@@ -124,7 +125,17 @@ fn last_byte(row: &Row, state: raw::Encoder) {
     };
     assert_eq!((answer, out), (wanted, after), "{}", row.line);
     let without_memory = if wanted == Ok(1) { Err(Error::ShortMemory) } else { wanted };
-    assert_eq!(SequenceEncoder::from_raw(state).finalize_into(&mut []), without_memory, "{}", row.line);
+    let answer = SequenceEncoder::from_raw(state).finalize_into(&mut []).map_err(|refused| handed_back(refused, state));
+    assert_eq!(answer, without_memory, "{}", row.line);
+    let allocating = SequenceEncoder::from_raw(state).finalize().map(|last| last.len());
+    assert_eq!(allocating.map_err(|refused| handed_back(refused, state)), wanted, "{}", row.line);
+}
+
+/// Why it was refused; the state must be the one that was handed in.
+fn handed_back(refused: FinalizeError, state: raw::Encoder) -> Error {
+    let (error, encoder) = refused.into_parts();
+    assert_eq!(encoder.to_raw(), state);
+    error
 }
 
 #[test]

@@ -38,8 +38,8 @@ fn update(alphabet: Alphabet, words: &[&'static str]) -> Vec<String> {
 fn finalize(alphabet: Alphabet, words: &[&'static str]) -> Vec<String> {
     let mut encoder = SequenceEncoder::new(alphabet);
     encoder.update(text(words[0])).unwrap();
-    let lent = written(9, hex, |out| encoder.finalize_into(out));
-    vec![lent, encoder.finalize().map_or_else(refused, |last| hex(&last))]
+    let lent = written(9, hex, |out| Ok(encoder.clone().finalize_into(out)?));
+    vec![lent, encoder.finalize().map_or_else(|error| refused(error.error()), |last| hex(&last))]
 }
 
 /// The answers of every zero-filling read and engine that serves the call.
