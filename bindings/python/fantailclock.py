@@ -130,27 +130,87 @@ def _refuse(number, first, second):
 # The C ABI: the structs and functions of include/fantailclock.h under the same names. Every number is 64 bits wide.
 
 
-def _struct(name, *fields):
-    fields = [(field, ctypes.c_uint64) if isinstance(field, str) else field for field in fields]
-    about = f"The struct `{name}` of include/fantailclock.h."
-    return type(name, (ctypes.Structure,), {"_fields_": fields, "__doc__": about, "__module__": __name__})
+def _numbers(*names):
+    return [(name, ctypes.c_uint64) for name in names]
 
 
-fc_number = _struct("fc_number", "refusal", "value")
-fc_count = _struct("fc_count", "refusal", "count")
-fc_range = _struct("fc_range", "refusal", "start", "end")
-fc_packed = _struct("fc_packed", "refusal", "count", "position", "byte")
-fc_guesser = _struct("fc_guesser", "mask")
-fc_guessing = _struct("fc_guessing", "refusal", ("next", fc_guesser))
-fc_encoder = _struct(
-    "fc_encoder", "alphabet", "seen", "pending_bits", "pending", "has_bad", "bad_position", "bad_byte"
-)
-fc_encoder_started = _struct("fc_encoder_started", "refusal", ("next", fc_encoder))
-fc_updated = _struct("fc_updated", "refusal", "count", ("next", fc_encoder))
-fc_stream = _struct("fc_stream", "alphabet", "skip", "budget", "pending_bits", "pending")
-fc_stream_started = _struct("fc_stream_started", "refusal", ("next", fc_stream))
-fc_streamed = _struct("fc_streamed", "refusal", "taken", "written", "status", ("next", fc_stream))
-fc_ended = _struct("fc_ended", "refusal", "outstanding")
+class fc_number(ctypes.Structure):
+    """A number."""
+
+    _fields_ = _numbers("refusal", "value")
+
+
+class fc_count(ctypes.Structure):
+    """A count."""
+
+    _fields_ = _numbers("refusal", "count")
+
+
+class fc_range(ctypes.Structure):
+    """First byte and end of a range."""
+
+    _fields_ = _numbers("refusal", "start", "end")
+
+
+class fc_packed(ctypes.Structure):
+    """The count of a packing; position and byte of the first non-member where it is refused by 5."""
+
+    _fields_ = _numbers("refusal", "count", "position", "byte")
+
+
+class fc_guesser(ctypes.Structure):
+    """A guesser's state: the mask of the alphabets that hold every byte seen; 16 to 31."""
+
+    _fields_ = _numbers("mask")
+
+
+class fc_guessing(ctypes.Structure):
+    """A guesser's state after a call."""
+
+    _fields_ = _numbers("refusal") + [("next", fc_guesser)]
+
+
+class fc_encoder(ctypes.Structure):
+    """An encoder's state: symbols seen, bits that fill no byte yet, the first byte that was no member."""
+
+    _fields_ = _numbers("alphabet", "seen", "pending_bits", "pending", "has_bad", "bad_position", "bad_byte")
+
+
+class fc_encoder_started(ctypes.Structure):
+    """An encoder's first state."""
+
+    _fields_ = _numbers("refusal") + [("next", fc_encoder)]
+
+
+class fc_updated(ctypes.Structure):
+    """The count of an update, and the encoder's state after it."""
+
+    _fields_ = _numbers("refusal", "count") + [("next", fc_encoder)]
+
+
+class fc_stream(ctypes.Structure):
+    """A stream's state: bits still to be passed over, bases still to come, bits taken and not used."""
+
+    _fields_ = _numbers("alphabet", "skip", "budget", "pending_bits", "pending")
+
+
+class fc_stream_started(ctypes.Structure):
+    """A stream's first state."""
+
+    _fields_ = _numbers("refusal") + [("next", fc_stream)]
+
+
+class fc_streamed(ctypes.Structure):
+    """What a stream's read has taken and written, its status, and the state after it."""
+
+    _fields_ = _numbers("refusal", "taken", "written", "status") + [("next", fc_stream)]
+
+
+class fc_ended(ctypes.Structure):
+    """A stream's end: the bases still to come where it is refused by 7."""
+
+    _fields_ = _numbers("refusal", "outstanding")
+
 
 _N = [ctypes.c_uint64]
 _MEMORY = [ctypes.c_void_p, ctypes.c_size_t]
@@ -209,7 +269,7 @@ def _load():
     return loaded
 
 
-lib = _load()
+lib: ctypes.CDLL = _load()
 
 
 def _extension():
@@ -335,7 +395,9 @@ def _own(function, before, room):
         out = bytes(room if room > 0 else 0)  # filled in place: nobody else holds it yet
     except (MemoryError, OverflowError):
         raise ShortMemory from None
-    answer = _accepted(function(*before, out, len(out)))
+    answer = function(*before, out, len(out))
+    if answer.refusal:
+        _accepted(answer)
     return answer, out if answer.count == room else out[: answer.count]
 
 
@@ -351,11 +413,8 @@ def _read_by_ctypes(name, first, last):
     """A read of a window, plain and into lent memory; `first` numbers stand before its data, `last` behind."""
     function, many = getattr(lib, name), first + 1 + last
 
-    def asked(given):
-        return [*map(_number, given[:first])], given[first], [*map(_number, given[first + 1 : many])]
-
     def plain(*given):
-        before, data, behind = asked(given)
+        before, data, behind = [*map(_number, given[:first])], given[first], [*map(_number, given[first + 1 :])]
         room = behind[-1] - behind[-2] if last > 1 else behind[-1]
         if type(data) is bytes:
             return _own(function, (*before, data, len(data), *behind), room)[1]
@@ -363,8 +422,8 @@ def _read_by_ctypes(name, first, last):
             return _own(function, (*before, address, length, *behind), room)[1]
 
     def into(*given):
-        before, data, behind = asked(given)
-        return _into(function, before, data, behind, given[many]).count
+        before, behind = [*map(_number, given[:first])], [*map(_number, given[first + 1 : many])]
+        return _into(function, before, given[first], behind, given[many]).count
 
     return staticmethod(plain), staticmethod(into)
 
