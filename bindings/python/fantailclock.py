@@ -153,7 +153,7 @@ class fc_range(ctypes.Structure):
 
 
 class fc_packed(ctypes.Structure):
-    """The count of a packing; position and byte of the first non-member where it is refused by 5."""
+    """The count of a packing; where it is refused by 5, the first non-member."""
 
     _fields_ = _numbers("refusal", "count", "position", "byte")
 
