@@ -1,0 +1,16 @@
+# Shared by the scripts that build and run what hosts link; sourced from the top folder, with the script's name in `script`.
+
+fail() {
+    printf '%s: %s\n' "$script" "$*" >&2
+    exit 1
+}
+
+# A program, and Debian's packages that have it.
+need() {
+    local program=$1
+    shift
+    command -v "$program" >/dev/null && return
+    command -v apt-get >/dev/null || fail "$program is missing"
+    apt-get install -y --no-install-recommends "$@" || { apt-get update && apt-get install -y --no-install-recommends "$@"; } ||
+        fail "$program is missing, and apt-get cannot install $*"
+}
