@@ -17,8 +17,8 @@
  * or (where `has_bad` is 1) a `bad_byte` above 255.
  *
  * Memory. A pointer with a length names that many bytes, which the caller owns and which nothing else may write during the call. Where the length is 0
- * nothing is read or written through the pointer, which may then be any, null too. INPUT AND OUTPUT MEMORY OF ONE CALL MUST NOT OVERLAP: no call can notice it, none
- * refuses it, and the bases or packed bytes that come out are then wrong.
+ * nothing is read or written through the pointer, which may then be any, null too. INPUT AND OUTPUT MEMORY OF ONE CALL MUST NOT OVERLAP: no call can notice
+ * it, none refuses it, and the bases or packed bytes that come out are then wrong.
  */
 #ifndef FANTAILCLOCK_H
 #define FANTAILCLOCK_H
