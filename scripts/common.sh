@@ -5,6 +5,11 @@ fail() {
     exit 1
 }
 
+# The version of the header's structs.
+abi_version() {
+    sed -n 's/^#define FC_ABI_VERSION \([0-9][0-9]*\)$/\1/p' include/fantailclock.h
+}
+
 # A program, and Debian's packages that have it.
 need() {
     local program=$1
