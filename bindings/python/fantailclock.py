@@ -1,9 +1,9 @@
 """Fantailclock: packed alphabets and their coders, over the C ABI of the proved library.
 
 Input is any object with contiguous bytes (bytes, bytearray, memoryview, mmap), and is read where it lies. A plain name
-gives a new bytearray; the name with `_into` writes to the front of memory that the caller lends, answers the count, and
-leaves every other byte as it was. A call that is refused raises the subclass of `Refused` that has the rules' number, and
-has changed nothing.
+gives new bytes; the name with `_into` writes to the front of memory that the caller lends, answers the count, and leaves
+every other byte as it was; input and output memory that overlap are a ValueError. A number is anything with `__index__`.
+A call that is refused raises the subclass of `Refused` that has the rules' number, and has changed nothing.
 
     >>> import fantailclock as fc
     >>> packed = fc.encode_sequence(fc.Alphabet.Dna3bit, b"ACGTNRYU")
@@ -11,20 +11,32 @@ has changed nothing.
     '053977'
     >>> first, end = fc.byte_range_for_bases(2, 6, fc.Alphabet.Dna3bit.bits_per_symbol)
     >>> fc.decode_covered(fc.Alphabet.Dna3bit, packed[first:end], first, 2, 6)
-    bytearray(b'GTNR')
+    b'GTNR'
 
 The shared object is made by bindings/python/build; it is found there, beside this file, or where FANTAILCLOCK_SO says.
-Calls release the interpreter's lock: memory that is lent to a call must be left alone by other threads until it returns.
+Calls go through the extension module that stands beside it, or by ctypes where there is none, which is ten times as slow;
+`WAY` tells which, and FANTAILCLOCK_WAY (`extension` or `ctypes`) asks for one of them. Calls on more than a few thousand
+bytes release the interpreter's lock: memory that is lent to a call must be left alone by other threads until it returns.
 """
+
+from __future__ import annotations
 
 import ctypes
 import enum
-import inspect
+import importlib.machinery
+import importlib.util
 import io
 import operator
 import os
 import pathlib
-from typing import NamedTuple
+import struct
+import sys
+from typing import TYPE_CHECKING, Any, NamedTuple, Optional, Protocol, SupportsIndex, Tuple, Union
+
+if TYPE_CHECKING:
+    from typing_extensions import Buffer
+else:
+    Buffer = Any  # any object with contiguous bytes; collections.abc has a name for it from 3.12 on
 
 ABI_VERSION = 1
 
@@ -32,26 +44,34 @@ ABI_VERSION = 1
 class Refused(Exception):
     """A call that was refused: `number` is the rules' number, 1 to 9. No byte and no state has changed."""
 
-    number = 0
-    about = ""
+    number: int = 0
+    about: str = ""
 
-    def __str__(self):
+    def __str__(self) -> str:
         return f"refused by {self.number}: {self.about}"
 
 
 class Unsound(Refused):
+    """A state that no list of calls can leave."""
+
     number, about = 1, "unsound state"
 
 
 class TooFar(Refused):
+    """A position, or a text's length, above 2^60."""
+
     number, about = 2, "position above 2^60"
 
 
 class Uncovered(Refused):
+    """The covered read was not lent every byte of its window's range."""
+
     number, about = 3, "bytes of the range not lent"
 
 
 class ShortMemory(Refused):
+    """The output memory is shorter than what would be written, or cannot be had."""
+
     number, about = 4, "output memory too short"
 
 
@@ -60,13 +80,15 @@ class NotMember(Refused):
 
     number = 5
 
-    def __init__(self, position, byte):
+    def __init__(self, position: int, byte: int) -> None:
         super().__init__(position, byte)
         self.position, self.byte = position, byte
         self.about = f"byte {byte:02X} at position {position} is no member"
 
 
 class BadSkip(Refused):
+    """A skip of more than 7 bits."""
+
     number, about = 6, "skip above 7"
 
 
@@ -75,17 +97,21 @@ class Outstanding(Refused, EOFError):
 
     number = 7
 
-    def __init__(self, bases):
+    def __init__(self, bases: int) -> None:
         super().__init__(bases)
         self.bases = bases
         self.about = f"stream not complete, {bases} bases outstanding"
 
 
 class NoAlphabet(Refused):
+    """No alphabet has this number."""
+
     number, about = 8, "no such alphabet"
 
 
 class TooWide(Refused):
+    """More than 8 bits per symbol."""
+
     number, about = 9, "more than 8 bits"
 
 
@@ -95,12 +121,19 @@ _REFUSALS = {
 }
 
 
+def _refuse(number, first, second):
+    """Raises the refusal that has this number; the two values are position and byte of 5, bases and nothing of 7."""
+    refusal = _REFUSALS[number]
+    raise refusal(first, second) if refusal is NotMember else refusal(first) if refusal is Outstanding else refusal()
+
+
 # The C ABI: the structs and functions of include/fantailclock.h under the same names. Every number is 64 bits wide.
 
 
 def _struct(name, *fields):
     fields = [(field, ctypes.c_uint64) if isinstance(field, str) else field for field in fields]
-    return type(name, (ctypes.Structure,), {"_fields_": fields})
+    about = f"The struct `{name}` of include/fantailclock.h."
+    return type(name, (ctypes.Structure,), {"_fields_": fields, "__doc__": about, "__module__": __name__})
 
 
 fc_number = _struct("fc_number", "refusal", "value")
@@ -157,6 +190,11 @@ def _path():
     return os.environ.get("FANTAILCLOCK_SO") or str(beside if beside.exists() else made)
 
 
+def _of_this_version(path, version):
+    if version != ABI_VERSION:
+        raise ImportError(f"{path} has ABI version {version}, not {ABI_VERSION}")
+
+
 def _load():
     """The shared object with every function's types; ImportError where there is none, or one of another version."""
     path = _path()
@@ -167,12 +205,36 @@ def _load():
     for name, (answer, arguments) in _FUNCTIONS.items():
         function = getattr(loaded, name)
         function.restype, function.argtypes = answer, arguments
-    if loaded.fc_abi_version() != ABI_VERSION:
-        raise ImportError(f"{path} has ABI version {loaded.fc_abi_version()}, not {ABI_VERSION}")
+    _of_this_version(path, loaded.fc_abi_version())
     return loaded
 
 
 lib = _load()
+
+
+def _extension():
+    """The extension module that stands beside the shared object, with its version tested; None where there is none, or
+    ctypes is asked for."""
+    asked = os.environ.get("FANTAILCLOCK_WAY")
+    if asked not in (None, "", "ctypes", "extension"):
+        raise ImportError(f"FANTAILCLOCK_WAY is {asked}, not extension or ctypes")
+    folder = pathlib.Path(lib._name).parent
+    names = [folder / f"_fantailclock{suffix}" for suffix in importlib.machinery.EXTENSION_SUFFIXES]
+    path = next((name for name in names if name.exists()), None)
+    if asked == "extension" and path is None:
+        raise ImportError(f"no extension module in {folder}; make it with bindings/python/build")
+    if asked == "ctypes" or path is None:
+        return None
+    spec = importlib.util.spec_from_file_location("_fantailclock", path)
+    extension = importlib.util.module_from_spec(spec)
+    spec.loader.exec_module(extension)
+    _of_this_version(path, extension.abi_version())
+    extension.refuse_by(_refuse)
+    return extension
+
+
+# The calls by ctypes, as the extension module has them: the same arguments by position, the same order of questions, the
+# same answers. Numbers are read first, then memory is lent.
 
 
 class _Buffer(ctypes.Structure):
@@ -199,66 +261,246 @@ _get_buffer.argtypes = [ctypes.py_object, ctypes.POINTER(_Buffer), ctypes.c_int]
 _release_buffer = ctypes.pythonapi.PyBuffer_Release
 _release_buffer.argtypes = [ctypes.POINTER(_Buffer)]
 _release_buffer.restype = None
-_NOWHERE = ctypes.create_string_buffer(1)  # a valid address for no bytes: the library takes no null
 
 
 class _Lent:
-    """An object's bytes, lent to one call where they lie: address and length, held until the block ends."""
+    """An object's bytes, lent to one call where they lie: address and length, held until the block ends. A bytes object
+    stands for its own address, which ctypes finds faster."""
+
+    __slots__ = ("_owner", "_writable", "_view")
 
     def __init__(self, owner, writable=False):
-        self._owner, self._flags, self._view = owner, _WRITABLE if writable else 0, _Buffer()
+        self._owner, self._writable, self._view = owner, writable, None
 
     def __enter__(self):
-        _get_buffer(self._owner, ctypes.byref(self._view), self._flags)
-        address = self._view.buf if self._view.len else None
-        return address or ctypes.addressof(_NOWHERE), self._view.len
+        if type(self._owner) is bytes and not self._writable:
+            return self._owner, len(self._owner)
+        view = _Buffer()
+        _get_buffer(self._owner, view, _WRITABLE if self._writable else 0)
+        self._view = view
+        return view.buf, view.len
 
     def __exit__(self, *_):
-        _release_buffer(ctypes.byref(self._view))
+        if self._view is not None:
+            _release_buffer(self._view)
 
 
 def _number(value):
     """A number for the C ABI, which would cut off what 64 bits do not hold."""
-    value = operator.index(value)
+    if type(value) is not int:
+        value = operator.index(value)
     if not 0 <= value < 1 << 64:
-        raise OverflowError(f"{value} is not a number of 64 bits")
+        raise OverflowError("not a number of 64 bits")
     return value
 
 
-def _accepted(answer, *values):
+_VALUES = {fc_packed: ("position", "byte"), fc_ended: ("outstanding", "refusal")}  # the values that a refusal has
+
+
+def _accepted(answer):
     """The answer of an accepted call; raises the refusal of any other, with its values."""
     if answer.refusal:
-        refusal = _REFUSALS[answer.refusal]
-        raise refusal(*values) if refusal in (NotMember, Outstanding) else refusal()
+        first, second = _VALUES.get(type(answer), ("refusal", "refusal"))
+        _refuse(answer.refusal, getattr(answer, first), getattr(answer, second))
     return answer
 
 
-def _call(function, first, source, numbers, out):
-    """A call with input and output memory: first argument where there is one, input, numbers, output."""
+def _overlap(source, length, out, room):
+    """Whether two memories share a byte; the bytes of a bytes object, which cannot be lent for output, share none."""
+    return type(source) is not bytes and length and room and source < out + room and out < source + length
+
+
+def _into(function, first, source, numbers, out):
+    """The answer of a call with input and output memory, both lent."""
     with _Lent(source) as (address, length), _Lent(out, writable=True) as (room_address, room):
-        if address < room_address + room and room_address < address + length:
+        if _overlap(address, length, room_address, room):
             raise ValueError("input and output memory overlap")
-        return function(*first, address, length, *map(_number, numbers), room_address, room)
+        return _accepted(function(*first, address, length, *numbers, room_address, room))
 
 
-def _owned(room, call):
-    """What a call writes, in memory of its own; `room` bytes are enough.
+_FREELY = 1 << 16  # so many bytes are allocated before it is asked whether the call is refused
 
-    It is first made with no memory, so that one that is refused for another reason, or writes nothing, is over before
-    memory is sought: a window may be 2^60 bases long. Memory that cannot be had is memory too short."""
+
+def _own(function, before, room):
+    """The answer of a call that writes `room` bytes (none where that is below 0), and what it wrote, as new bytes;
+    `before` are the arguments before its memory.
+
+    A long one is first made with no memory, so that one that is refused for another reason is over before memory is
+    sought: a window may be 2^60 bases long. Memory that cannot be had is memory too short."""
+    if room > _FREELY:
+        asked = function(*before, None, 0)
+        if asked.refusal != ShortMemory.number:
+            _accepted(asked)
     try:
-        call(bytearray())
-        return bytearray()
-    except ShortMemory as short:
-        try:
-            out = bytearray(room)
-        except (MemoryError, OverflowError):
-            raise short from None
-    del out[call(out) :]
-    return out
+        out = bytes(room if room > 0 else 0)  # filled in place: nobody else holds it yet
+    except (MemoryError, OverflowError):
+        raise ShortMemory from None
+    answer = _accepted(function(*before, out, len(out)))
+    return answer, out if answer.count == room else out[: answer.count]
 
 
-class Alphabet(enum.IntEnum):
+_HUNGRY, _FULL = 1, 3  # statuses of a stream
+
+
+def _filled(pending_bits, symbols, bits):
+    """The bytes that symbols fill behind some bits; a state with more than 7 of those is refused whatever the memory."""
+    return 0 if pending_bits > 7 else (pending_bits + symbols * bits) // 8
+
+
+def _read_by_ctypes(name, first, last):
+    """A read of a window, plain and into lent memory; `first` numbers stand before its data, `last` behind."""
+    function, many = getattr(lib, name), first + 1 + last
+
+    def asked(given):
+        return [*map(_number, given[:first])], given[first], [*map(_number, given[first + 1 : many])]
+
+    def plain(*given):
+        before, data, behind = asked(given)
+        room = behind[-1] - behind[-2] if last > 1 else behind[-1]
+        if type(data) is bytes:
+            return _own(function, (*before, data, len(data), *behind), room)[1]
+        with _Lent(data) as (address, length):
+            return _own(function, (*before, address, length, *behind), room)[1]
+
+    def into(*given):
+        before, data, behind = asked(given)
+        return _into(function, before, data, behind, given[many]).count
+
+    return staticmethod(plain), staticmethod(into)
+
+
+class _Ctypes:
+    """The calls of the extension module, by ctypes."""
+
+    @staticmethod
+    def bits_per_symbol(alphabet):
+        return _accepted(lib.fc_bits_per_symbol(_number(alphabet))).value
+
+    @staticmethod
+    def contains(alphabet, byte):
+        return _accepted(lib.fc_contains(_number(alphabet), _number(byte))).value == 1
+
+    @staticmethod
+    def display_name(alphabet):
+        return _own(lib.fc_display_name, [_number(alphabet)], 8)[1].decode("ascii")
+
+    @staticmethod
+    def guess_alphabet(text):
+        with _Lent(text) as memory:
+            return lib.fc_guess_alphabet(*memory).value
+
+    @staticmethod
+    def guesser_new():
+        return bytes(lib.fc_guesser_new())
+
+    @staticmethod
+    def guesser_update(state, text):
+        with _Lent(text) as memory:
+            return bytes(_accepted(lib.fc_guesser_update(fc_guesser.from_buffer_copy(state), *memory)).next)
+
+    @staticmethod
+    def guesser_guess(state):
+        return _accepted(lib.fc_guesser_guess(fc_guesser.from_buffer_copy(state))).value
+
+    @staticmethod
+    def encode_sequence(alphabet, text):
+        alphabet = _number(alphabet)
+        with _Lent(text) as (address, length):
+            room = (length * lib.fc_bits_per_symbol(alphabet).value + 7) // 8
+            return _own(lib.fc_encode_sequence, (alphabet, address, length), room)[1]
+
+    @staticmethod
+    def encode_sequence_into(alphabet, text, out):
+        return _into(lib.fc_encode_sequence, [_number(alphabet)], text, [], out).count
+
+    @staticmethod
+    def encoder_new(alphabet):
+        return bytes(_accepted(lib.fc_encoder_new(_number(alphabet))).next)
+
+    @staticmethod
+    def encoder_update(state, piece):
+        state = fc_encoder.from_buffer_copy(state)
+        with _Lent(piece) as (address, length):
+            room = _filled(state.pending_bits, length, lib.fc_bits_per_symbol(state.alphabet).value)
+            answer, packed = _own(lib.fc_encoder_update, (state, address, length), room)
+        return packed, bytes(answer.next)
+
+    @staticmethod
+    def encoder_update_into(state, piece, out):
+        answer = _into(lib.fc_encoder_update, [fc_encoder.from_buffer_copy(state)], piece, [], out)
+        return answer.count, bytes(answer.next)
+
+    @staticmethod
+    def encoder_finalize(state):
+        state = fc_encoder.from_buffer_copy(state)
+        return _own(lib.fc_encoder_finalize, [state], int(state.pending_bits > 0))[1]
+
+    @staticmethod
+    def encoder_finalize_into(state, out):
+        with _Lent(out, writable=True) as memory:
+            return _accepted(lib.fc_encoder_finalize(fc_encoder.from_buffer_copy(state), *memory)).count
+
+    @staticmethod
+    def byte_range_for_bases(start, end, bits):
+        answer = _accepted(lib.fc_byte_range_for_bases(_number(start), _number(end), _number(bits)))
+        return answer.start, answer.end
+
+    decode_substring_from_bytes_at_offset, decode_substring_from_bytes_at_offset_into = _read_by_ctypes(
+        "fc_decode_substring_from_bytes_at_offset", 1, 3
+    )
+    decode_substring_from_bytes, decode_substring_from_bytes_into = _read_by_ctypes(
+        "fc_decode_substring_from_bytes", 1, 2
+    )
+    decode_string_from_bytes, decode_string_from_bytes_into = _read_by_ctypes("fc_decode_string_from_bytes", 1, 1)
+    decode_covered, decode_covered_into = _read_by_ctypes("fc_decode_covered", 1, 3)
+    decode_rolling, decode_rolling_into = _read_by_ctypes("fc_decode_rolling", 1, 3)
+    decode_2bit, decode_2bit_into = _read_by_ctypes("fc_decode_2bit", 0, 3)
+    decode_3bit, decode_3bit_into = _read_by_ctypes("fc_decode_3bit", 0, 3)
+
+    @staticmethod
+    def stream_new(alphabet, skip, budget):
+        return bytes(_accepted(lib.fc_stream_new(_number(alphabet), _number(skip), _number(budget))).next)
+
+    @staticmethod
+    def stream_read(state, source, most):
+        most, state = _number(most), fc_stream.from_buffer_copy(state)
+        with _Lent(source) as (address, length):
+            bits = lib.fc_bits_per_symbol(state.alphabet).value
+            there = 0 if not bits or state.pending_bits > 7 else (state.pending_bits + length * 8) // bits
+            out = bytes(min(there, state.budget, most))
+            answer = _accepted(lib.fc_stream_read(state, address, length, out, len(out)))
+        hungry = answer.status == _FULL and answer.written < most  # there would be memory for more
+        status = _HUNGRY if hungry else answer.status
+        return out[: answer.written], answer.taken, status, bytes(answer.next)
+
+    @staticmethod
+    def stream_read_into(state, source, out):
+        answer = _into(lib.fc_stream_read, [fc_stream.from_buffer_copy(state)], source, [], out)
+        return answer.written, answer.taken, answer.status, bytes(answer.next)
+
+    @staticmethod
+    def stream_end(state):
+        _accepted(lib.fc_stream_end(fc_stream.from_buffer_copy(state)))
+
+
+_calls: Any = _extension() or _Ctypes
+WAY: str = "ctypes" if _calls is _Ctypes else "extension"
+
+
+# The public names
+
+
+class _Named(enum.IntEnum):
+    """A number that is printed by its name."""
+
+    def __str__(self) -> str:
+        return self.name
+
+    def __format__(self, spec: str) -> str:
+        return int.__format__(self, spec) if spec[-1:] in tuple("bcdnoxX") else str.__format__(self.name, spec)
+
+
+class Alphabet(_Named):
     """The six alphabets by their numbers. Where a function takes one, any number may stand; above 5 it is refused by 8."""
 
     Dna2bit = 0
@@ -269,93 +511,113 @@ class Alphabet(enum.IntEnum):
     Unknown = 5
 
     @property
-    def bits_per_symbol(self):
-        return _bits_per_symbol(self)
+    def bits_per_symbol(self) -> int:
+        """The bits of one symbol's code: 2, 3, 4, 5, 8, 8."""
+        return _calls.bits_per_symbol(self)
 
-    def contains(self, byte):
+    def contains(self, byte: SupportsIndex) -> bool:
         """Whether the byte, a number, is a symbol of the alphabet."""
-        return _accepted(lib.fc_contains(self, _number(byte))).value == 1
+        return _calls.contains(self, byte)
 
     @property
-    def display_name(self):
+    def display_name(self) -> str:
         """dna2bit, dna3bit, dnaio, protein, ASCII or Unknown."""
-        name = bytearray(8)
-        with _Lent(name, writable=True) as memory:
-            count = _accepted(lib.fc_display_name(self, *memory)).count
-        return name[:count].decode("ascii")
+        return _calls.display_name(self)
 
 
-def _bits_per_symbol(alphabet):
-    return _accepted(lib.fc_bits_per_symbol(_number(alphabet))).value
+_ALPHABETS = tuple(Alphabet)
 
 
-def guess_alphabet(text):
+def guess_alphabet(text: Buffer) -> Alphabet:
     """The first of Dna2bit, Dna3bit, DnaIupac, Protein and Ascii that holds every byte of the text."""
-    with _Lent(text) as memory:
-        return Alphabet(_accepted(lib.fc_guess_alphabet(*memory)).value)
+    return _ALPHABETS[_calls.guess_alphabet(text)]
+
+
+def _kept(state, kind):
+    """A state that a host hands in."""
+    if not isinstance(state, kind):
+        raise TypeError(f"a state is an {kind.__name__}, not {type(state).__name__}")
+    return bytes(state)
 
 
 class Guesser:
     """The same guess, piece by piece. A state that was kept (an `fc_guesser`) may be handed in."""
 
-    def __init__(self, state=None):
-        self.state = lib.fc_guesser_new() if state is None else state
+    def __init__(self, state: Optional[fc_guesser] = None) -> None:
+        self._state = _calls.guesser_new() if state is None else _kept(state, fc_guesser)
 
-    def update(self, text):
+    @property
+    def state(self) -> fc_guesser:
+        """The state, to be kept; a copy."""
+        return fc_guesser.from_buffer_copy(self._state)
+
+    def update(self, text: Buffer) -> None:
         """Takes one more piece of the text."""
-        with _Lent(text) as memory:
-            self.state = _accepted(lib.fc_guesser_update(self.state, *memory)).next
+        self._state = _calls.guesser_update(self._state, text)
 
-    def guess(self):
-        return Alphabet(_accepted(lib.fc_guesser_guess(self.state)).value)
+    def guess(self) -> Alphabet:
+        """The guess for what was seen; Dna2bit for no bytes."""
+        return _ALPHABETS[_calls.guesser_guess(self._state)]
 
 
-def encode_sequence_into(alphabet, text, out):
+def encode_sequence_into(alphabet: SupportsIndex, text: Buffer, out: Buffer) -> int:
     """Packs a text into the front of `out`; the count is (len * bits + 7) // 8."""
-    answer = _call(lib.fc_encode_sequence, [_number(alphabet)], text, [], out)
-    return _accepted(answer, answer.position, answer.byte).count
+    return _calls.encode_sequence_into(alphabet, text, out)
 
 
-def encode_sequence(alphabet, text):
+def encode_sequence(alphabet: SupportsIndex, text: Buffer) -> bytes:
     """Packs a text."""
-    room = (memoryview(text).nbytes * _bits_per_symbol(alphabet) + 7) // 8
-    return _owned(room, lambda out: encode_sequence_into(alphabet, text, out))
+    return _calls.encode_sequence(alphabet, text)
 
 
 class SequenceEncoder:
     """Packs a text that comes in pieces: each `update` gives the bytes that its piece completes, `finalize` the last one
     where bits pend. A byte that is no member is reported by `finalize`. A refused call leaves the encoder as it was; an
-    accepted `finalize` ends the text. A state that was kept (an `fc_encoder`) may be handed in."""
+    accepted `finalize` ends the text, and every call after it is a ValueError. A state that was kept (an `fc_encoder`)
+    may be handed in."""
 
-    def __init__(self, alphabet=None, state=None):
+    def __init__(self, alphabet: Optional[SupportsIndex] = None, state: Optional[fc_encoder] = None) -> None:
         if (alphabet is None) == (state is None):
             raise TypeError("an encoder starts from an alphabet or from a state")
-        self.state = _accepted(lib.fc_encoder_new(_number(alphabet))).next if state is None else state
+        self._state = _calls.encoder_new(alphabet) if state is None else _kept(state, fc_encoder)
+        self._ended = False
 
-    def update_into(self, piece, out):
+    @property
+    def state(self) -> fc_encoder:
+        """The state, to be kept; a copy."""
+        return fc_encoder.from_buffer_copy(self._state)
+
+    def _open(self):
+        if self._ended:
+            raise ValueError("the text was ended by finalize")
+        return self._state
+
+    def update_into(self, piece: Buffer, out: Buffer) -> int:
         """Packs a piece behind what pends, into the front of `out`; the count of bytes that it completes."""
-        answer = _accepted(_call(lib.fc_encoder_update, [self.state], piece, [], out))
-        self.state = answer.next
-        return answer.count
+        count, self._state = _calls.encoder_update_into(self._open(), piece, out)
+        return count
 
-    def update(self, piece):
-        bits = memoryview(piece).nbytes * _bits_per_symbol(self.state.alphabet)
-        return _owned((self.state.pending_bits + bits) // 8, lambda out: self.update_into(piece, out))
+    def update(self, piece: Buffer) -> bytes:
+        """Packs a piece behind what pends; the bytes that it completes."""
+        packed, self._state = _calls.encoder_update(self._open(), piece)
+        return packed
 
-    def finalize_into(self, out):
-        """Writes the last byte where bits pend, with zeros behind them; the count, 0 or 1."""
-        with _Lent(out, writable=True) as memory:
-            answer = lib.fc_encoder_finalize(self.state, *memory)
-        return _accepted(answer, answer.position, answer.byte).count
+    def finalize_into(self, out: Buffer) -> int:
+        """Ends the text: writes the last byte where bits pend, with zeros behind them; the count, 0 or 1."""
+        count = _calls.encoder_finalize_into(self._open(), out)
+        self._ended = True
+        return count
 
-    def finalize(self):
-        return _owned(1, self.finalize_into)
+    def finalize(self) -> bytes:
+        """Ends the text: the last byte where bits pend, with zeros behind them, else nothing."""
+        last = _calls.encoder_finalize(self._open())
+        self._ended = True
+        return last
 
 
-def byte_range_for_bases(start, end, bits):
+def byte_range_for_bases(start: SupportsIndex, end: SupportsIndex, bits: SupportsIndex) -> Tuple[int, int]:
     """First byte and end of the bytes of a packed file that hold the bases from `start` to `end`, not including `end`."""
-    answer = _accepted(lib.fc_byte_range_for_bases(_number(start), _number(end), _number(bits)))
-    return answer.start, answer.end
+    return _calls.byte_range_for_bases(start, end, bits)
 
 
 # Reads of a window: the bases from `start` to `end`, not including `end`, of a packed file of which `data` are the bytes
@@ -363,67 +625,112 @@ def byte_range_for_bases(start, end, bits):
 # not lent for zero: compare what was fetched with what was asked for, or use `decode_covered`.
 
 
-def _plain(into):
-    """The plain form of a read: the same arguments but the memory, which is its own."""
-    signature = inspect.signature(into)
-    signature = signature.replace(parameters=list(signature.parameters.values())[:-1])
-
-    def read(*arguments, **named):
-        bound = signature.bind(*arguments, **named).arguments
-        end = bound["end"] if "end" in bound else bound["seq_len"]
-        return _owned(end - bound.get("start", 0), lambda out: into(**bound, out=out))
-
-    read.__name__ = read.__qualname__ = into.__name__[: -len("_into")]
-    read.__doc__, read.__signature__ = into.__doc__, signature
-    return read
-
-
-def decode_substring_from_bytes_at_offset_into(alphabet, data, byte_offset, start, end, out):
+def decode_substring_from_bytes_at_offset(
+    alphabet: SupportsIndex, data: Buffer, byte_offset: SupportsIndex, start: SupportsIndex, end: SupportsIndex
+) -> bytes:
     """The window's bases; every byte that is not lent reads as zero."""
-    function = lib.fc_decode_substring_from_bytes_at_offset
-    return _accepted(_call(function, [_number(alphabet)], data, [byte_offset, start, end], out)).count
+    return _calls.decode_substring_from_bytes_at_offset(alphabet, data, byte_offset, start, end)
 
 
-def decode_substring_from_bytes_into(alphabet, data, start, end, out):
-    """The same with byte_offset 0."""
-    return _accepted(_call(lib.fc_decode_substring_from_bytes, [_number(alphabet)], data, [start, end], out)).count
+def decode_substring_from_bytes_at_offset_into(
+    alphabet: SupportsIndex,
+    data: Buffer,
+    byte_offset: SupportsIndex,
+    start: SupportsIndex,
+    end: SupportsIndex,
+    out: Buffer,
+) -> int:
+    """The window's bases, into the front of `out`; every byte that is not lent reads as zero."""
+    return _calls.decode_substring_from_bytes_at_offset_into(alphabet, data, byte_offset, start, end, out)
 
 
-def decode_string_from_bytes_into(alphabet, data, seq_len, out):
-    """The same with byte_offset and start 0: the first `seq_len` bases."""
-    return _accepted(_call(lib.fc_decode_string_from_bytes, [_number(alphabet)], data, [seq_len], out)).count
+def decode_substring_from_bytes(
+    alphabet: SupportsIndex, data: Buffer, start: SupportsIndex, end: SupportsIndex
+) -> bytes:
+    """The window's bases where `data` are the file's first bytes: byte_offset 0."""
+    return _calls.decode_substring_from_bytes(alphabet, data, start, end)
 
 
-def decode_covered_into(alphabet, data, byte_offset, start, end, out):
+def decode_substring_from_bytes_into(
+    alphabet: SupportsIndex, data: Buffer, start: SupportsIndex, end: SupportsIndex, out: Buffer
+) -> int:
+    """The window's bases, into the front of `out`, where `data` are the file's first bytes: byte_offset 0."""
+    return _calls.decode_substring_from_bytes_into(alphabet, data, start, end, out)
+
+
+def decode_string_from_bytes(alphabet: SupportsIndex, data: Buffer, seq_len: SupportsIndex) -> bytes:
+    """The first `seq_len` bases: byte_offset and start 0."""
+    return _calls.decode_string_from_bytes(alphabet, data, seq_len)
+
+
+def decode_string_from_bytes_into(alphabet: SupportsIndex, data: Buffer, seq_len: SupportsIndex, out: Buffer) -> int:
+    """The first `seq_len` bases, into the front of `out`: byte_offset and start 0."""
+    return _calls.decode_string_from_bytes_into(alphabet, data, seq_len, out)
+
+
+def decode_covered(
+    alphabet: SupportsIndex, data: Buffer, byte_offset: SupportsIndex, start: SupportsIndex, end: SupportsIndex
+) -> bytes:
     """The covered read: the same bases, refused by 3 where a byte of the window's range is not lent."""
-    return _accepted(_call(lib.fc_decode_covered, [_number(alphabet)], data, [byte_offset, start, end], out)).count
+    return _calls.decode_covered(alphabet, data, byte_offset, start, end)
 
 
-def decode_rolling_into(alphabet, data, byte_offset, start, end, out):
+def decode_covered_into(
+    alphabet: SupportsIndex,
+    data: Buffer,
+    byte_offset: SupportsIndex,
+    start: SupportsIndex,
+    end: SupportsIndex,
+    out: Buffer,
+) -> int:
+    """The covered read, into the front of `out`: refused by 3 where a byte of the window's range is not lent."""
+    return _calls.decode_covered_into(alphabet, data, byte_offset, start, end, out)
+
+
+def decode_rolling(
+    alphabet: SupportsIndex, data: Buffer, byte_offset: SupportsIndex, start: SupportsIndex, end: SupportsIndex
+) -> bytes:
     """The engine for any alphabet."""
-    return _accepted(_call(lib.fc_decode_rolling, [_number(alphabet)], data, [byte_offset, start, end], out)).count
+    return _calls.decode_rolling(alphabet, data, byte_offset, start, end)
 
 
-def decode_2bit_into(data, byte_offset, start, end, out):
+def decode_rolling_into(
+    alphabet: SupportsIndex,
+    data: Buffer,
+    byte_offset: SupportsIndex,
+    start: SupportsIndex,
+    end: SupportsIndex,
+    out: Buffer,
+) -> int:
+    """The engine for any alphabet, into the front of `out`."""
+    return _calls.decode_rolling_into(alphabet, data, byte_offset, start, end, out)
+
+
+def decode_2bit(data: Buffer, byte_offset: SupportsIndex, start: SupportsIndex, end: SupportsIndex) -> bytes:
     """The engine for Dna2bit."""
-    return _accepted(_call(lib.fc_decode_2bit, [], data, [byte_offset, start, end], out)).count
+    return _calls.decode_2bit(data, byte_offset, start, end)
 
 
-def decode_3bit_into(data, byte_offset, start, end, out):
+def decode_2bit_into(
+    data: Buffer, byte_offset: SupportsIndex, start: SupportsIndex, end: SupportsIndex, out: Buffer
+) -> int:
+    """The engine for Dna2bit, into the front of `out`."""
+    return _calls.decode_2bit_into(data, byte_offset, start, end, out)
+
+
+def decode_3bit(data: Buffer, byte_offset: SupportsIndex, start: SupportsIndex, end: SupportsIndex) -> bytes:
     """The engine for Dna3bit."""
-    return _accepted(_call(lib.fc_decode_3bit, [], data, [byte_offset, start, end], out)).count
+    return _calls.decode_3bit(data, byte_offset, start, end)
 
 
-decode_substring_from_bytes_at_offset = _plain(decode_substring_from_bytes_at_offset_into)
-decode_substring_from_bytes = _plain(decode_substring_from_bytes_into)
-decode_string_from_bytes = _plain(decode_string_from_bytes_into)
-decode_covered = _plain(decode_covered_into)
-decode_rolling = _plain(decode_rolling_into)
-decode_2bit = _plain(decode_2bit_into)
-decode_3bit = _plain(decode_3bit_into)
+def decode_3bit_into(
+    data: Buffer, byte_offset: SupportsIndex, start: SupportsIndex, end: SupportsIndex, out: Buffer
+) -> int:
+    """The engine for Dna3bit, into the front of `out`."""
+    return _calls.decode_3bit_into(data, byte_offset, start, end, out)
 
 
-class Status(enum.IntEnum):
+class Status(_Named):
     """What a stream waits for: more source, nothing, more memory."""
 
     Hungry = 1
@@ -444,35 +751,55 @@ class Stream:
     """A stream by value: each read answers the next one, and takes of its source just the bytes that it needs. A state
     that was kept (an `fc_stream`) may be handed in."""
 
-    def __init__(self, alphabet=None, skip=0, budget=0, state=None):
+    def __init__(
+        self,
+        alphabet: Optional[SupportsIndex] = None,
+        skip: SupportsIndex = 0,
+        budget: SupportsIndex = 0,
+        state: Optional[fc_stream] = None,
+    ) -> None:
         if (alphabet is None) == (state is None):
             raise TypeError("a stream starts from an alphabet or from a state")
-        if state is None:
-            state = _accepted(lib.fc_stream_new(_number(alphabet), _number(skip), _number(budget))).next
-        self.state = state
+        self._state = _calls.stream_new(alphabet, skip, budget) if state is None else _kept(state, fc_stream)
 
     @classmethod
-    def for_window(cls, alphabet, start, end):
+    def for_window(cls, alphabet: SupportsIndex, start: SupportsIndex, end: SupportsIndex) -> Stream:
         """The stream of the bases from `start` to `end`; its source begins at the first byte of `byte_range_for_bases`.
         An empty window needs no byte."""
-        bits = _bits_per_symbol(alphabet)
+        start, end = _number(start), _number(end)
+        bits = _calls.bits_per_symbol(alphabet)
         byte_range_for_bases(start, end, bits)
         return cls(alphabet, start * bits % 8, end - start) if start < end else cls(alphabet)
 
-    def read(self, source, out):
+    @property
+    def state(self) -> fc_stream:
+        """The state, to be kept; a copy."""
+        return fc_stream.from_buffer_copy(self._state)
+
+    def read(self, source: Buffer, out: Buffer) -> Streamed:
         """Takes source bytes and writes bases to the front of `out`, as many as budget, source and memory allow."""
-        answer = _accepted(_call(lib.fc_stream_read, [self.state], source, [], out))
-        return Streamed(answer.taken, answer.written, Status(answer.status), Stream(state=answer.next))
+        written, taken, status, state = _calls.stream_read_into(self._state, source, out)
+        return Streamed(taken, written, Status(status), Stream._at(state))
 
-    def end(self):
+    @classmethod
+    def _at(cls, state):
+        stream = cls.__new__(cls)
+        stream._state = state
+        return stream
+
+    def end(self) -> None:
         """Raises `Outstanding` unless the skip is done and every base is written."""
-        answer = lib.fc_stream_end(self.state)
-        _accepted(answer, answer.outstanding)
+        _calls.stream_end(self._state)
 
-    def _bytes_needed(self, bases):
-        """The source bytes still needed for the next bases, so many or what is left of the budget."""
-        due = self.state.skip + min(bases, self.state.budget) * _bits_per_symbol(self.state.alphabet)
-        return (max(due - self.state.pending_bits, 0) + 7) // 8
+
+class Source(Protocol):
+    """What a decoder reads from: anything with `read`, as a file has it; None where there is nothing yet."""
+
+    def read(self, count: int, /) -> Optional[Buffer]:
+        """At most so many bytes; none at the end."""
+
+
+_NUMBERS = struct.Struct("=5Q")  # those of an fc_stream
 
 
 class StreamingDecoder(io.RawIOBase):
@@ -480,36 +807,97 @@ class StreamingDecoder(io.RawIOBase):
 
     Of the source it reads just the bytes that the bases asked for need, nothing ahead. Where the source ends with bases
     outstanding, the bases that it gave are handed out first; then every read raises `Outstanding`, an EOFError. An empty
-    answer to a read thus means that the whole window was read."""
+    answer to a read thus means that the whole window was read. `read()` gives the whole window or raises. A decoder that
+    was closed raises ValueError, as io's own do; it leaves its source open."""
 
-    CHUNK = 8192  # the source bytes that one read takes at most
+    CHUNK = 1 << 16  # the source bytes that one read takes at most
+    AT_ONCE = 1 << 30  # the memory that `read()` asks for at once, at most; it is filled in place
 
-    def __init__(self, source, alphabet, leading_skip_bits, bases_to_emit):
+    def __init__(
+        self, source: Source, alphabet: SupportsIndex, leading_skip_bits: SupportsIndex, bases_to_emit: SupportsIndex
+    ) -> None:
         super().__init__()
-        self._source, self.stream = source, Stream(alphabet, leading_skip_bits, bases_to_emit)
+        self._source, self._state = source, _calls.stream_new(alphabet, leading_skip_bits, bases_to_emit)
+        self._bits = _calls.bits_per_symbol(alphabet)
 
     @classmethod
-    def for_window(cls, source, alphabet, start, end):
+    def for_window(
+        cls, source: Source, alphabet: SupportsIndex, start: SupportsIndex, end: SupportsIndex
+    ) -> StreamingDecoder:
         """The bases from `start` to `end`; the source begins at the first byte of `byte_range_for_bases`."""
         state = Stream.for_window(alphabet, start, end).state
         return cls(source, alphabet, state.skip, state.budget)
 
-    def readable(self):
+    @property
+    def stream(self) -> Stream:
+        """The stream as it stands; its `end` says whether the window is complete."""
+        return Stream._at(self._state)
+
+    def _open(self):
+        if self.closed:
+            raise ValueError("I/O operation on closed file.")
+
+    def readable(self) -> bool:
+        """True."""
+        self._open()
         return True
 
-    def readinto(self, out):
-        """One source read that gives a base is enough for an answer, so an error of the source never loses a base."""
+    def _fetch(self, bases):
+        """Source bytes for the next bases, so many or what is left of the budget; None where there is nothing yet."""
+        _, skip, budget, pending_bits, _ = _NUMBERS.unpack(self._state)
+        due = skip + min(bases, budget) * self._bits - pending_bits
+        return self._source.read(min((due + 7) // 8, self.CHUNK)) if due > 0 else b""
+
+    def _stepped(self, call, bases, memory):
+        """Steps by a call until it gives an answer: what it wrote, or None where the source has nothing yet. One source
+        read that gives a base is enough, so an error of the source never loses a base."""
         while True:
-            needed = self.stream._bytes_needed(memoryview(out).nbytes)
-            fetched = self._source.read(min(needed, self.CHUNK)) if needed else b""
-            if fetched is None:  # a source that has nothing yet
+            fetched = self._fetch(bases)
+            if fetched is None:
                 return None
-            step = self.stream.read(fetched, out)
-            if step.taken != len(fetched):
+            written, taken, status, state = call(self._state, fetched, memory)
+            if taken != len(fetched):
                 raise ValueError("the source gave more bytes than it was asked for")
-            self.stream = step.next
-            if step.written or step.status != Status.Hungry:
-                return step.written
+            self._state = state
+            if written or status != _HUNGRY:
+                return written
             if not fetched:
-                self.stream.end()
+                _calls.stream_end(state)
                 raise AssertionError("a hungry stream is not complete")
+
+    def readinto(self, out: Buffer) -> Optional[int]:
+        """Writes the next bases to the front of `out`; their count, 0 at the window's end."""
+        self._open()
+        return self._stepped(_calls.stream_read_into, memoryview(out).nbytes, out)
+
+    def read(self, size: Union[SupportsIndex, None] = -1) -> Optional[bytes]:
+        """The next bases, at most `size` of them; without a size all that are left."""
+        self._open()
+        size = -1 if size is None else operator.index(size)
+        return self.readall() if size < 0 else self._stepped(_calls.stream_read, size, min(size, sys.maxsize))
+
+    def readall(self) -> Optional[bytes]:
+        """All bases that are left; `Outstanding` where the source ends before them."""
+        self._open()
+        gathered = io.BytesIO(bytes(min(_NUMBERS.unpack(self._state)[2], self.AT_ONCE)))
+        with gathered.getbuffer() as memory:
+            count, part = self._fill(memory)
+        gathered.truncate(count)
+        gathered.seek(count)
+        while part is not None:  # None: the source has nothing yet
+            part = self.read(self.CHUNK)
+            if not part:
+                break
+            gathered.write(part)
+        return None if part is None and not gathered.tell() else gathered.getvalue()
+
+    def _fill(self, memory):
+        """Reads bases until the memory is full, the window ends or the source has nothing yet; their count, and the
+        answer of the last read."""
+        count, answer = 0, 0
+        while count < len(memory):
+            answer = self.readinto(memory[count:])
+            if not answer:
+                break
+            count += answer
+        return count, answer

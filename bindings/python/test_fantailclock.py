@@ -9,11 +9,7 @@ import os
 import pathlib
 import random
 import re
-import shutil
 import signal
-import subprocess
-import sys
-import tempfile
 import unittest
 
 import fantailclock as fc
@@ -120,7 +116,7 @@ class Worked(unittest.TestCase):
     def finalize(self, alphabet, word):
         encoder = fc.SequenceEncoder(alphabet)
         encoder.update(text(word))
-        yield written(9, in_hex, encoder.finalize_into)
+        yield written(9, in_hex, fc.SequenceEncoder(state=encoder.state).finalize_into)
         yield told(lambda: in_hex(encoder.finalize()))
 
     def read(self, alphabet, data, *numbers):
@@ -423,7 +419,7 @@ class BetweenGuardPages(unittest.TestCase):
         encoder.update(piece)
         for room in rooms(len(packed) - end):
             self.harness.check("fc_encoder_finalize", about, b"", room, fitting(packed[end:], room),
-                               lambda _, out: encoder.finalize_into(out))
+                               lambda _, out: fc.SequenceEncoder(state=encoder.state).finalize_into(out))
 
     def window(self, alphabet, file, lent, window):
         (first, last), (start, end) = lent, window
@@ -700,11 +696,6 @@ class Forms(unittest.TestCase):
             self.assertEqual(fc.decode_covered_into(alphabet, b"", 0, 0, 0, empty), 0)
             self.assertEqual(fc.Stream(alphabet, 0, 1).read(b"", empty)[:3], (0, 0, fc.Status.Full))
 
-    def test_no_bytes_have_an_address(self):
-        for empty in b"", bytearray(), memoryview(b""), (ctypes.c_uint8 * 0)(), (ctypes.c_uint8 * 0).from_address(0):
-            with fc._Lent(empty) as (address, length):
-                self.assertEqual((address > 0, length), (True, 0))
-
     def test_a_refused_update_leaves_the_encoder_as_it_was(self):
         encoder = fc.SequenceEncoder(Alphabet.Dna2bit)
         self.assertEqual(encoder.update(b"ACN"), b"")
@@ -715,22 +706,6 @@ class Forms(unittest.TestCase):
         with self.assertRaises(fc.NotMember) as caught:
             encoder.finalize()
         self.assertEqual(str(caught.exception), "refused by 5: byte 4E at position 2 is no member")
-
-    def test_the_shared_object_is_found_or_missed_plainly(self):
-        found = "import fantailclock as fc; print(fc.guess_alphabet(b'ACGU').name)"
-        with tempfile.TemporaryDirectory() as elsewhere:
-            shutil.copy(fc.__file__, elsewhere)
-            self.assertIn("ImportError: ", self.imported(elsewhere, found))
-            self.assertEqual(self.imported(elsewhere, found, FANTAILCLOCK_SO=fc.lib._name), "Dna3bit")
-            shutil.copy(fc.lib._name, elsewhere + "/libfantailclock.so")
-            self.assertEqual(self.imported(elsewhere, found), "Dna3bit")
-
-    def imported(self, folder, program, **more):
-        """What a program prints that imports the module from a folder."""
-        environment = {name: value for name, value in os.environ.items() if name != "FANTAILCLOCK_SO"}
-        command = [sys.executable, "-B", "-c", program]
-        ran = subprocess.run(command, cwd=folder, env={**environment, **more}, capture_output=True, text=True)
-        return (ran.stdout + ran.stderr).strip()
 
     def test_every_refusal_has_its_exception(self):
         refusals = {

@@ -1,0 +1,367 @@
+"""The two ways to the library, the extension module and ctypes: what each takes for a number and for memory, that both answer
+alike, that nothing is kept or lost, and how they are found. Most of it is asked of the way that the tests run over."""
+
+import ctypes
+import gc
+import io
+import os
+import random
+import shutil
+import subprocess
+import sys
+import tempfile
+import threading
+import unittest
+
+import fantailclock as fc
+from fantailclock import Alphabet
+
+try:
+    import numpy
+except ImportError:
+    numpy = None
+
+PACKED = bytes.fromhex("053977")
+
+
+class Index:
+    """A number that has nothing but `__index__`."""
+
+    def __init__(self, value):
+        self.value = value
+
+    def __index__(self):
+        return self.value
+
+
+class Numbers(unittest.TestCase):
+    def kinds(self):
+        yield int
+        yield Index
+        if numpy:
+            yield from (numpy.uint64, numpy.int64, numpy.uint8)
+
+    def test_every_number_may_be_any_index(self):
+        for n in self.kinds():
+            self.assertEqual(fc.byte_range_for_bases(n(2), n(6), n(3)), (0, 3))
+            self.assertEqual(fc.encode_sequence(n(1), b"ACGTNRYU"), PACKED)
+            self.assertEqual(fc.encode_sequence_into(n(1), b"ACGTNRYU", bytearray(3)), 3)
+            encoder = fc.SequenceEncoder(n(1))
+            self.assertEqual(encoder.update(b"ACGTNRYU") + encoder.finalize(), PACKED)
+            self.assertTrue(Alphabet.Dna3bit.contains(n(ord("N"))))
+            self.reads(n)
+            self.streams(n)
+
+    def reads(self, n):
+        for read in fc.decode_covered, fc.decode_rolling, fc.decode_substring_from_bytes_at_offset:
+            self.assertEqual(read(n(1), PACKED, n(0), n(2), n(6)), b"GTNR")
+        self.assertEqual(fc.decode_substring_from_bytes(n(1), PACKED, n(2), n(6)), b"GTNR")
+        self.assertEqual(fc.decode_string_from_bytes(n(1), PACKED, n(6)), b"ACGTNR")
+        self.assertEqual(fc.decode_3bit(PACKED, n(0), n(2), n(6)), b"GTNR")
+        self.assertEqual(fc.decode_2bit(b"\x1b", n(0), n(1), n(4)), b"CAG")
+        out = bytearray(4)
+        for into in fc.decode_covered_into, fc.decode_rolling_into, fc.decode_substring_from_bytes_at_offset_into:
+            self.assertEqual((into(n(1), PACKED, n(0), n(2), n(6), out), out), (4, b"GTNR"))
+        self.assertEqual(fc.decode_substring_from_bytes_into(n(1), PACKED, n(2), n(6), out), 4)
+        self.assertEqual(fc.decode_string_from_bytes_into(n(1), PACKED, n(4), out), 4)
+        self.assertEqual(fc.decode_3bit_into(PACKED, n(0), n(2), n(6), out), 4)
+        self.assertEqual(fc.decode_2bit_into(b"\x1b", n(0), n(0), n(4), out), 4)
+
+    def streams(self, n):
+        self.assertEqual(fc.Stream(n(1), n(6), n(4)).read(PACKED, bytearray(4))[:3], (3, 4, fc.Status.Done))
+        self.assertEqual(fc.Stream.for_window(n(1), n(2), n(6)).state.skip, 6)
+        self.assertEqual(fc.Stream.for_window(n(1), n(6), n(2)).state.budget, 0)
+        self.assertEqual(fc.StreamingDecoder.for_window(io.BytesIO(PACKED), n(1), n(2), n(6)).read(n(4)), b"GTNR")
+        self.assertEqual(fc.StreamingDecoder(io.BytesIO(PACKED), n(1), n(6), n(4)).read(), b"GTNR")
+
+    def test_what_is_no_number_of_64_bits(self):
+        for wrong, error in (
+            (-1, OverflowError), (Index(-1), OverflowError), (1 << 64, OverflowError), (Index((1 << 64) + 2), OverflowError),
+            (10**5000, OverflowError), (1.0, TypeError), ("1", TypeError), (None, TypeError), (b"1", TypeError),
+        ):
+            for at in 0, 2, 3, 4:
+                given = [1, PACKED, 0, 2, 6]
+                given[at] = wrong
+                self.assertRaises(error, fc.decode_covered, *given)
+                self.assertRaises(error, fc.decode_covered_into, *given, bytearray(4))
+            for at in 0, 1, 2:
+                given = [2, 6, 3]
+                given[at] = wrong
+                self.assertRaises(error, fc.byte_range_for_bases, *given)
+                self.assertRaises(error, fc.Stream.for_window, *given)
+                if wrong is not None:  # no alphabet
+                    self.assertRaises(error, fc.Stream, *given)
+            self.assertRaises(error, fc.encode_sequence, wrong, b"")
+            self.assertRaises(error, Alphabet.Dna2bit.contains, wrong)
+
+    def test_an_index_that_fails(self):
+        class Fails:
+            def __index__(self):
+                raise ZeroDivisionError
+
+        self.assertRaises(ZeroDivisionError, fc.decode_covered, 1, PACKED, 0, 2, Fails())
+        self.assertRaises(ZeroDivisionError, fc.byte_range_for_bases, Fails(), 2, 2)
+
+
+class Memory(unittest.TestCase):
+    def test_a_window_is_memory_of_its_own(self):
+        """Bytes are shared by Python where they are short; what a call fills never is."""
+        for byte in range(256):
+            read = fc.decode_covered(Alphabet.Ascii, bytes([byte]), 0, 0, 1)
+            self.assertEqual((type(read), read), (bytes, bytes([byte])))
+        self.assertEqual([bytes([byte])[0] for byte in range(256)], list(range(256)))
+        self.assertEqual((bytes(1), bytes(0), b"\0"), (b"\0", b"", b"\0"))
+
+    def test_what_is_no_memory(self):
+        for wrong, error in ("ACGT", TypeError), (7, TypeError), (None, TypeError), (memoryview(b"ACGT")[::2], BufferError):
+            self.assertRaises(error, fc.guess_alphabet, wrong)
+            self.assertRaises(error, fc.encode_sequence, 0, wrong)
+            self.assertRaises(error, fc.decode_covered, 0, wrong, 0, 0, 1)
+            self.assertRaises(error, fc.SequenceEncoder(0).update, wrong)
+            self.assertRaises(error, fc.Guesser().update, wrong)
+            self.assertRaises(error, fc.Stream(0, 0, 4).read, wrong, bytearray(4))
+        for wrong in b"....", memoryview(b"...."), memoryview(bytearray(9))[::2]:
+            self.assertRaises(BufferError, fc.encode_sequence_into, 0, b"ACGT", wrong)
+            self.assertRaises(BufferError, fc.decode_covered_into, 0, b"\x1b", 0, 0, 4, wrong)
+            self.assertRaises(BufferError, fc.SequenceEncoder(0).update_into, b"ACGT", wrong)
+            self.assertRaises(BufferError, fc.SequenceEncoder(0).finalize_into, wrong)
+            self.assertRaises(BufferError, fc.Stream(0, 0, 4).read, b"\x1b", wrong)
+
+    def test_memory_that_overlaps_is_refused_by_every_call(self):
+        for source, out in (slice(0, 8), slice(0, 8)), (slice(0, 5), slice(4, 8)), (slice(4, 8), slice(0, 5)):
+            memory = memoryview(bytearray(b"ACGTACGT"))
+            given = memory[source], memory[out]
+            calls = {
+                "encode": lambda: fc.encode_sequence_into(4, *given),
+                "update": lambda: fc.SequenceEncoder(4).update_into(*given),
+                "stream": lambda: fc.Stream(4, 0, 4).read(*given),
+                "string": lambda: fc.decode_string_from_bytes_into(4, given[0], 4, given[1]),
+                "substring": lambda: fc.decode_substring_from_bytes_into(4, given[0], 0, 4, given[1]),
+                "2bit": lambda: fc.decode_2bit_into(given[0], 0, 0, 4, given[1]),
+                "3bit": lambda: fc.decode_3bit_into(given[0], 0, 0, 4, given[1]),
+            }
+            for read in fc.decode_covered_into, fc.decode_rolling_into, fc.decode_substring_from_bytes_at_offset_into:
+                calls[read.__name__] = lambda read=read: read(4, given[0], 0, 0, 4, given[1])
+            for name, call in calls.items():
+                self.assertRaisesRegex(ValueError, "overlap", call)
+                self.assertEqual(memory, b"ACGTACGT", name)
+        self.assertEqual(fc.encode_sequence_into(4, memory[:4], memory[4:]), 4)  # side by side
+        self.assertEqual(fc.encode_sequence_into(4, memory[4:4], memory), 0)  # no byte within
+        self.assertEqual(fc.decode_covered_into(4, memory, 0, 3, 3, memory[4:4]), 0)
+
+    def test_memory_is_given_back(self):
+        source, out = bytearray(b"ACGTACGT"), bytearray(1)
+        for call in (
+            lambda: fc.guess_alphabet(source),
+            lambda: fc.encode_sequence(0, source),
+            lambda: fc.encode_sequence(9, source),
+            lambda: fc.encode_sequence_into(0, source, out),
+            lambda: fc.encode_sequence_into(0, source, source),
+            lambda: fc.encode_sequence_into(0, source, b""),
+            lambda: fc.decode_covered(0, source, 0, 0, 99),
+            lambda: fc.decode_covered_into(0, source, 0, 0, 9, out),
+            lambda: fc.SequenceEncoder(0).update(source),
+            lambda: fc.SequenceEncoder(0).update_into(source, out),
+            lambda: fc.Stream(0, 0, 4).read(source, out),
+            lambda: fc.Stream(0, 0, 4).read(source, source),
+        ):
+            try:
+                call()
+            except (fc.Refused, ValueError, BufferError):
+                pass
+            source.append(0)  # refused by Python while the memory is lent
+            out.append(0)
+            del source[-1], out[-1]
+
+    def test_long_calls_at_once(self):
+        """Long calls run side by side; each thread has its own memory and its own answers."""
+        wrong = []
+
+        def work(alphabet):
+            file = bytes(random.Random(alphabet).randbytes(1 << 18))
+            expected = fc.decode_rolling(alphabet, file, 0, 3, 100_000)
+            for _ in range(20):
+                if fc.decode_covered(alphabet, file, 0, 3, 100_000) != expected:
+                    wrong.append(alphabet)
+
+        threads = [threading.Thread(target=work, args=(alphabet,)) for alphabet in Alphabet]
+        for thread in threads:
+            thread.start()
+        for thread in threads:
+            thread.join()
+        self.assertEqual(wrong, [])
+
+
+class Kept(unittest.TestCase):
+    """Calls, accepted and refused, in great number: no object is kept, and none is given back too often."""
+
+    def calls(self):
+        number, source, out = Index(1 << 40), bytearray(b"ACGTACGT" * 700), bytearray(9000)
+        state = fc._calls.encoder_new(0)
+        for name, given in (
+            ("decode_covered", (1, source, 0, 2, 6)),
+            ("decode_covered", (1, source, 0, 2, 12_000)),
+            ("decode_covered", (1, source, 0, 2, number)),
+            ("decode_covered", (1, source, 0, 2, 1 << 61)),
+            ("decode_covered", (1, source, 0, 2, -1)),
+            ("decode_covered", (1, "ACGT", 0, 2, 6)),
+            ("decode_covered_into", (1, source, 0, 2, 6, out)),
+            ("decode_covered_into", (1, source, 0, 2, 6, source)),
+            ("decode_covered_into", (1, source, 0, 2, 6, b"")),
+            ("decode_covered_into", (1, source, 0, 2, 9009, out)),
+            ("encode_sequence", (0, source)),
+            ("encode_sequence", (0, b"ACNT")),
+            ("encode_sequence", (number, source)),
+            ("guess_alphabet", (source,)),
+            ("guesser_update", (fc._calls.guesser_new(), source)),
+            ("encoder_update", (state, source)),
+            ("encoder_update_into", (state, source, out)),
+            ("encoder_update_into", (state, source, source)),
+            ("encoder_finalize", (state,)),
+            ("encoder_finalize_into", (state, b"")),
+            ("byte_range_for_bases", (0, number, 2)),
+            ("byte_range_for_bases", (0, 1 << 61, 2)),
+            ("display_name", (number,)),
+            ("display_name", (3,)),
+            ("stream_new", (0, 8, number)),
+            ("stream_read", (fc._calls.stream_new(1, 6, 5), source, 1 << 20)),
+            ("stream_read", (fc._calls.stream_new(1, 6, 5), "", 1 << 20)),
+            ("stream_read_into", (fc._calls.stream_new(1, 6, 5000), source, out)),
+            ("stream_read_into", (fc._calls.stream_new(1, 6, 5000), source, source)),
+            ("stream_end", (fc._calls.stream_new(1, 6, 5),)),
+        ):
+            yield name, given
+
+    def made(self, name, given, times):
+        call = getattr(fc._calls, name)
+        for _ in range(times):
+            try:
+                call(*given)
+            except (fc.Refused, ValueError, TypeError, BufferError, OverflowError):
+                pass
+
+    def test_no_reference_is_kept_or_lost(self):
+        for name, given in self.calls():
+            self.made(name, given, 10)
+            gc.collect()
+            before, blocks = [sys.getrefcount(each) for each in given], sys.getallocatedblocks()
+            self.made(name, given, 500)
+            gc.collect()
+            after = [sys.getrefcount(each) for each in given]
+            self.assertLess(max(abs(was - now) for was, now in zip(before, after)), 100, (name, given[1:]))
+            self.assertLess(abs(sys.getallocatedblocks() - blocks), 100, (name, given[1:]))
+
+
+class Alike(unittest.TestCase):
+    """The same calls by both ways, with arguments of every kind: the same answer, the same memory, the same exception."""
+
+    NUMBERS = [0, 1, 2, 3, 4, 5, 6, 7, 8, 9, 100, 5000, 1 << 20, 1 << 60, (1 << 60) + 1, (1 << 64) - 1, 1 << 64, -1, Index(3), True, 1.5, None]
+    SHAPES = {
+        "bits_per_symbol": "n", "contains": "nn", "display_name": "n", "guess_alphabet": "m", "guesser_new": "",
+        "guesser_update": "gm", "guesser_guess": "g", "encode_sequence": "nm", "encode_sequence_into": "nmo",
+        "encoder_new": "n", "encoder_update": "em", "encoder_update_into": "emo", "encoder_finalize": "e",
+        "encoder_finalize_into": "eo", "byte_range_for_bases": "nnn", "stream_new": "nnn", "stream_read": "smn",
+        "stream_read_into": "smo", "stream_end": "s", "decode_substring_from_bytes_at_offset": "nmnnn",
+        "decode_substring_from_bytes": "nmnn", "decode_string_from_bytes": "nmn", "decode_covered": "nmnnn",
+        "decode_rolling": "nmnnn", "decode_2bit": "mnnn", "decode_3bit": "mnnn",
+        "decode_substring_from_bytes_at_offset_into": "nmnnno", "decode_substring_from_bytes_into": "nmnno",
+        "decode_string_from_bytes_into": "nmno", "decode_covered_into": "nmnnno", "decode_rolling_into": "nmnnno",
+        "decode_2bit_into": "mnnno", "decode_3bit_into": "mnnno",
+    }
+
+    def argument(self, chance, kind):
+        """Makes an argument of a kind, anew for each way, so that the memory can be compared afterwards."""
+        if kind == "n":
+            value = chance.choice(self.NUMBERS[:11] * 3 + self.NUMBERS)
+            return lambda: value
+        if kind == "m":
+            text = bytes(chance.choices(b"ACGTNacgt\x05\x39\x77\x80", k=chance.choice((0, 1, 3, 8, 100, 9000))))
+            maker = chance.choice((bytes, bytes, bytearray, memoryview, lambda data: memoryview(data)[::2], lambda _: "ACGT"))
+            return lambda: maker(text)
+        if kind == "o":
+            room = chance.choice((0, 1, 4, 100, 5000))
+            maker = chance.choice((bytearray, bytearray, lambda room: memoryview(bytearray(room)), bytes))
+            return lambda: maker(room)
+        value = bytes(self.state(chance, kind))
+        return lambda: value
+
+    def state(self, chance, kind):
+        """A state, sound or forged."""
+        small = [chance.randint(0, 9) for _ in range(7)]
+        if chance.random() < 0.2:
+            small[chance.randint(0, 6)] = chance.choice((1 << 60, (1 << 64) - 1, 255))
+        if kind == "g":
+            return fc.fc_guesser(small[0] + 12)
+        if kind == "s":
+            return fc.fc_stream(small[0], small[1], small[2] * 7, 0, 0) if small[6] > 2 else fc.fc_stream(*small[:5])
+        return fc.fc_encoder(*([small[0], small[1] * 8] + [0] * 5 if small[6] > 2 else small))
+
+    def told(self, calls, name, made):
+        given = [make() for make in made]
+        try:
+            answer = getattr(calls, name)(*given)
+        except fc.Refused as refusal:
+            answer = str(refusal)
+        except (TypeError, ValueError, BufferError, OverflowError) as error:
+            answer = type(error)
+        return answer, [bytes(each) for each in given if isinstance(each, (bytearray, memoryview))]
+
+    @unittest.skipUnless(fc.WAY == "extension", "the extension is compared with ctypes where it is at hand")
+    def test_both_ways_answer_alike(self):
+        chance, kinds = random.Random(5), set()
+        self.assertEqual({name for name in dir(fc._Ctypes) if name[0] != "_"}, set(self.SHAPES))
+        self.assertEqual({name for name in dir(fc._calls) if name[0] != "_"}, {*self.SHAPES, "abi_version", "refuse_by"})
+        for _ in range(400):
+            for name, shape in self.SHAPES.items():
+                made = [self.argument(chance, kind) for kind in shape]
+                one, other = self.told(fc._calls, name, made), self.told(fc._Ctypes, name, made)
+                self.assertEqual(one, other, (name, [make() for make in made]))
+                kinds.add(one[0] if isinstance(one[0], (type, str)) else type(one[0]))
+        self.assertTrue({TypeError, BufferError, OverflowError, bytes, int, tuple} <= kinds, kinds)
+
+    @unittest.skipUnless(fc.WAY == "extension", "the extension's own questions")
+    def test_arguments_of_the_extension(self):
+        for name, shape in self.SHAPES.items():
+            call = getattr(fc._calls, name)
+            self.assertRaises(TypeError, call, *[0] * (len(shape) + 1))
+            if shape:
+                self.assertRaises(TypeError, call)
+        for short in b"", bytes(39), bytes(41):
+            self.assertRaises(ValueError, fc._calls.stream_end, short)
+            self.assertRaises(ValueError, fc._calls.encoder_finalize, short)
+
+
+class Found(unittest.TestCase):
+    """How the shared object and the way are found."""
+
+    PROGRAM = "import fantailclock as fc; print(fc.guess_alphabet(b'ACGU').name, fc.WAY)"
+
+    def imported(self, folder, **more):
+        """What a program prints that imports the module from a folder."""
+        kept = {name: value for name, value in os.environ.items() if name not in ("FANTAILCLOCK_SO", "FANTAILCLOCK_WAY", "PYTHONPATH")}
+        command = [sys.executable, "-B", "-c", self.PROGRAM]
+        ran = subprocess.run(command, cwd=folder, env={**kept, **more}, capture_output=True, text=True)
+        return (ran.stdout + ran.stderr).strip().splitlines()[-1]
+
+    def test_the_shared_object_is_found_or_missed_plainly(self):
+        with tempfile.TemporaryDirectory() as elsewhere:
+            shutil.copy(fc.__file__, elsewhere)
+            self.assertRegex(self.imported(elsewhere), "^ImportError: .*make it with bindings/python/build")
+            self.assertEqual(self.imported(elsewhere, FANTAILCLOCK_SO=fc.lib._name, FANTAILCLOCK_WAY=fc.WAY), f"Dna3bit {fc.WAY}")
+            shutil.copy(fc.lib._name, elsewhere + "/libfantailclock.so")
+            self.assertEqual(self.imported(elsewhere), "Dna3bit ctypes")
+            self.assertRegex(self.imported(elsewhere, FANTAILCLOCK_WAY="extension"), "^ImportError: no extension module")
+            self.assertRegex(self.imported(elsewhere, FANTAILCLOCK_WAY="other"), "^ImportError: FANTAILCLOCK_WAY")
+            if fc.WAY == "extension":
+                shutil.copy(fc._calls.__file__, elsewhere)
+                self.assertEqual(self.imported(elsewhere), "Dna3bit extension")
+                self.assertEqual(self.imported(elsewhere, FANTAILCLOCK_WAY="ctypes"), "Dna3bit ctypes")
+
+    def test_the_way_that_was_asked_for(self):
+        asked = os.environ.get("FANTAILCLOCK_WAY")
+        self.assertIn(fc.WAY, [asked] if asked else ["extension", "ctypes"])
+        self.assertIsInstance(fc.lib, ctypes.CDLL)
+
+
+if __name__ == "__main__":
+    unittest.main()

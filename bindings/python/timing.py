@@ -1,0 +1,81 @@
+"""What a call costs, by the extension module and by ctypes, and what ctypes costs by itself: the best of several rounds, in
+nanoseconds. Then a window of 8 Mi bases by a decoder, with `readinto` of 1 MiB and with `read()`, in milliseconds.
+
+    python3 timing.py            both ways, one after the other
+    python3 timing.py WAY        one of them: extension or ctypes
+
+Ends with status 1 where a plain window of 100 bases costs 3 microseconds or more by the extension, or where `read()` has less
+than half the speed of `readinto`."""
+
+import io
+import os
+import subprocess
+import sys
+import time
+import timeit
+
+LIMIT = 3000  # nanoseconds for a plain window of 100 bases by the extension
+BASES = 1 << 23
+
+
+def per_call(call, rounds=25, times=2000):
+    return min(timeit.repeat(call, number=times, repeat=rounds)) / times * 1e9
+
+
+def calls(fc):
+    """The calls by name."""
+    text, out = b"ACGT" * 25, bytearray(100)
+    packed = fc.encode_sequence(0, b"ACGT" * 2500)
+    lent, encoder = memoryview(packed), fc.SequenceEncoder(0)
+    return {
+        "plain window of 100 bases": lambda: fc.decode_covered(0, packed, 0, 50, 150),
+        "the same out of a memoryview": lambda: fc.decode_covered(0, lent, 0, 50, 150),
+        "the same into lent memory": lambda: fc.decode_covered_into(0, packed, 0, 50, 150, out),
+        "plain window of 10,000 bases": lambda: fc.decode_covered(0, packed, 0, 0, 10_000),
+        "byte range": lambda: fc.byte_range_for_bases(50, 150, 2),
+        "packing of 100 bases": lambda: fc.encode_sequence(0, text),
+        "update with 100 bases": lambda: encoder.update(text),
+        "guess of 100 bases": lambda: fc.guess_alphabet(text),
+        "ctypes alone, no argument": fc.lib.fc_abi_version,
+        "ctypes alone, the window's arguments": lambda: fc.lib.fc_decode_covered(0, packed, 2500, 0, 50, 150, None, 0),
+    }
+
+
+def streamed(fc, packed, drain, rounds=7):
+    """The best time of a decoder's whole window, in milliseconds."""
+    def once():
+        decoder = fc.StreamingDecoder.for_window(io.BytesIO(packed), 0, 1, BASES)
+        begun = time.perf_counter()
+        drain(decoder)
+        return (time.perf_counter() - begun) * 1e3
+
+    return min(once() for _ in range(rounds))
+
+
+def readinto(decoder):
+    memory = bytearray(1 << 20)
+    while decoder.readinto(memory):
+        pass
+
+
+def timed(way):
+    """Prints the figures of one way; whether they are within the limits."""
+    import fantailclock as fc
+
+    costs = {name: per_call(call) for name, call in calls(fc).items()}
+    for name, cost in costs.items():
+        print(f"{way:9}  {name:36}  {cost:8.0f} ns")
+    packed = fc.encode_sequence(0, b"ACGT" * (BASES // 4))
+    into, whole = streamed(fc, packed, readinto), streamed(fc, packed, lambda decoder: decoder.read())
+    print(f"{way:9}  8 Mi bases by a decoder: readinto of 1 MiB {into:.1f} ms, read() {whole:.1f} ms")
+    return (way == "ctypes" or costs["plain window of 100 bases"] < LIMIT) and whole <= 2 * into
+
+
+def main(ways):
+    if len(ways) == 1:
+        return 0 if timed(ways[0]) else 1
+    return max(subprocess.run([sys.executable, "-B", __file__, way], env={**os.environ, "FANTAILCLOCK_WAY": way}).returncode for way in ways)
+
+
+if __name__ == "__main__":
+    sys.exit(main(sys.argv[1:] or ["extension", "ctypes"]))
