@@ -82,7 +82,7 @@ module _ (l : EncoderList) where
   pub list-packs : Finished l → Packed (alphabetIn l) (textIn l) (bytesIn l)
   list-packs h =
       subst (λ (os : List Outcome). Packed (alphabetIn l) (acceptedText (callsOf (l .calls)) os) (written 0 os)) (sym list-run)
-      (fresh-packs (alphabetIn l) fresh-known (callsOf (l .calls)) (ap (finished (callsOf (l .calls))) (sym list-run) ∙ h))
+      (fresh-packs (alphabetIn l) fresh-known (callsOf (l .calls)) (ap (finished (callsOf (l .calls))) (sym list-run) ∙ h .ended))
 
 -- ---- `encode_sequence`
 

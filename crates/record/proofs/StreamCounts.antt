@@ -247,8 +247,8 @@ module _ (l : EncoderList) (w : Window l) (t : StreamList) (set : Streams l w t)
             ∙ window-first (alphabetIn l) (textIn l) (t .lent) (w .from) (w .s) (w .e) (lent-serves l w (w .from) (t .lent) (omega arith) (set .lends)) k (omega (arith, within, w .some))
             ∙ ap (map (codingIn l .canon)) (sym (take-take k n (drop (w .s) (textIn l)) within))
             ∙ sym (take-map (codingIn l .canon) k (take n (drop (w .s) (textIn l))));
-        ends = λ c given.
-            ap endedReply (c .met ∙ ap endAt (given ∙ list-comes t .last) ∙ end-is kind-of q-of b-of (t .lent) (placeIn t) (begun t .0) (list-comes t .reach))
+        ends = λ c on.
+            ap endedReply (c .met ∙ ap endAt (on .state ∙ list-comes t .last) ∙ end-is kind-of q-of b-of (t .lent) (placeIn t) (begun t .0) (list-comes t .reach))
             ∙ ended-reply (complete b-of (placeIn t)) (b-of - k) (standsFor kind-of q-of b-of (t .lent) (placeIn t))
             ∙ ap (λ (b : Bool). cond b (accepted []) (refused 7 ((b-of - k) ∷ []))) (end-window kind-of q-of b-of (t .lent) (placeIn t) (omega (arith, set .budgets, w .some)) (list-comes t .reach))
             ∙ (λ i. cond (eqb k (set .budgets i)) (accepted []) (refused 7 ((set .budgets i - k) ∷ [])));
