@@ -76,94 +76,31 @@ abbrev pub handed : DecoderCall → Handed
 handed (at-offset c) =
     let (alphabet, (bytes, («byte_offset», (start, (end, (out, _)))))) = c .args in
     let (_, (_, (_, (_, (_, (after, _)))))) = c .exit in
-    record {
-      alphabet = alphabet;
-      lent = now bytes;
-      offset = «byte_offset»;
-      start = start;
-      end = end;
-      memory = now out;
-      result = c .result;
-      afterwards = now after;
-    }
+    record { alphabet = alphabet; lent = now bytes; offset = «byte_offset»; start = start; end = end; memory = now out; result = c .result; afterwards = now after }
 handed (substring c) =
     let (alphabet, (bytes, (start, (end, (out, _))))) = c .args in
     let (_, (_, (_, (_, (after, _))))) = c .exit in
-    record {
-      alphabet = alphabet;
-      lent = now bytes;
-      offset = 0;
-      start = start;
-      end = end;
-      memory = now out;
-      result = c .result;
-      afterwards = now after;
-    }
+    record { alphabet = alphabet; lent = now bytes; offset = 0; start = start; end = end; memory = now out; result = c .result; afterwards = now after }
 handed (string c) =
     let (alphabet, (bytes, («seq_len», (out, _)))) = c .args in
     let (_, (_, (_, (after, _)))) = c .exit in
-    record {
-      alphabet = alphabet;
-      lent = now bytes;
-      offset = 0;
-      start = 0;
-      end = «seq_len»;
-      memory = now out;
-      result = c .result;
-      afterwards = now after;
-    }
+    record { alphabet = alphabet; lent = now bytes; offset = 0; start = 0; end = «seq_len»; memory = now out; result = c .result; afterwards = now after }
 handed (covered c) =
     let (alphabet, (bytes, («byte_offset», (start, (end, (out, _)))))) = c .args in
     let (_, (_, (_, (_, (_, (after, _)))))) = c .exit in
-    record {
-      alphabet = alphabet;
-      lent = now bytes;
-      offset = «byte_offset»;
-      start = start;
-      end = end;
-      memory = now out;
-      result = c .result;
-      afterwards = now after;
-    }
+    record { alphabet = alphabet; lent = now bytes; offset = «byte_offset»; start = start; end = end; memory = now out; result = c .result; afterwards = now after }
 handed (two-bit c) =
     let (bytes, («byte_offset», (start, (end, (out, _))))) = c .args in
     let (_, (_, (_, (_, (after, _))))) = c .exit in
-    record {
-      alphabet = numberOf Dna2bit;
-      lent = now bytes;
-      offset = «byte_offset»;
-      start = start;
-      end = end;
-      memory = now out;
-      result = c .result;
-      afterwards = now after;
-    }
+    record { alphabet = numberOf Dna2bit; lent = now bytes; offset = «byte_offset»; start = start; end = end; memory = now out; result = c .result; afterwards = now after }
 handed (three-bit c) =
     let (bytes, («byte_offset», (start, (end, (out, _))))) = c .args in
     let (_, (_, (_, (_, (after, _))))) = c .exit in
-    record {
-      alphabet = numberOf Dna3bit;
-      lent = now bytes;
-      offset = «byte_offset»;
-      start = start;
-      end = end;
-      memory = now out;
-      result = c .result;
-      afterwards = now after;
-    }
+    record { alphabet = numberOf Dna3bit; lent = now bytes; offset = «byte_offset»; start = start; end = end; memory = now out; result = c .result; afterwards = now after }
 handed (rolling c) =
     let (alphabet, (bytes, («byte_offset», (start, (end, (out, _)))))) = c .args in
     let (_, (_, (_, (_, (_, (after, _)))))) = c .exit in
-    record {
-      alphabet = alphabet;
-      lent = now bytes;
-      offset = «byte_offset»;
-      start = start;
-      end = end;
-      memory = now out;
-      result = c .result;
-      afterwards = now after;
-    }
+    record { alphabet = alphabet; lent = now bytes; offset = «byte_offset»; start = start; end = end; memory = now out; result = c .result; afterwards = now after }
 
 -- whether it takes a byte_offset
 abbrev pub takesOffset : DecoderCall → Bool
