@@ -30,7 +30,12 @@ unfolding firstFrom
 none-members A i [] e = λ j h. absurd (not-suc-le-zero h)
 none-members A i (x ∷ text) e = go (A .member x) refl e (none-members A (suc i) text)
   where
-    go : (b : Bool) → A .member x ≡ b → cond b (firstFrom A (suc i) text) (First.At i x) ≡ First.Nothing → (firstFrom A (suc i) text ≡ First.Nothing → Members A text) → Members A (x ∷ text)
+    go :
+        (b : Bool) →
+        A .member x ≡ b →
+        cond b (firstFrom A (suc i) text) (First.At i x) ≡ First.Nothing →
+        (firstFrom A (suc i) text ≡ First.Nothing → Members A text) →
+        Members A (x ∷ text)
     go true m e ih zero h = m
     go true m e ih (suc j) h = ih e j (le-of-suc-le-suc h)
     go false m e ih j h = let z : _≡_ {A = ℕ} 0 1 = cc in absurd (omega arith)
@@ -55,7 +60,10 @@ module _ (alphabet : ℕ) (text : List ℕ) where
       )
 
   -- and an accepted call packs its text
-  pub encode-accepted : (memory : List ℕ) (count : ℕ) → encodeAt alphabet text (length memory) ≡ Encoded.Wrote count → Packed alphabet text (take count (encodeMemory alphabet text memory))
+  pub encode-accepted :
+      (memory : List ℕ) (count : ℕ) →
+      encodeAt alphabet text (length memory) ≡ Encoded.Wrote count →
+      Packed alphabet text (take count (encodeMemory alphabet text memory))
   unfolding encodeAt encodeWrites encodeMemory
   encode-accepted memory count e =
       by-cases (known alphabet) (inBounds (length text)) (leb need (length memory)) (firstFrom (numbered alphabet) 0 text) refl refl refl e

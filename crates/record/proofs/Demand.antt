@@ -14,7 +14,7 @@ the-record =
     record {
       tallied = λ l. list-run l ∙ fresh-tally (kindOf (alphabetIn l)) (callsOf (l .calls));
       packs = list-packs;
-      at-once = λ l h e. once-packed e (alphabetIn l) (textIn l) (bytesIn l) (list-packs l h);
+      at-once = λ l h e on. once-packed e (alphabetIn l) (textIn l) (bytesIn l) (list-packs l h) (on .by-alphabet) (on .text) (on .room);
       encodes = once-accepted;
       decoders = gives;
       streams = over-window;

@@ -39,8 +39,12 @@ code-run s (updates c ∷ cs) f = step s (f .0) (code-run (nextEncoder (c .resul
     step : (s : SequenceEncoder) → c .args .0 ≡ s → outcomesOf cs ≡ run (nextEncoder (c .result)) (callsOf cs) → outcomesOf (updates c ∷ cs) ≡ run s (callsOf (updates c ∷ cs))
     step s e ih =
         rw (← e)
-        (ap₂ (λ (m : List ℕ) (os : List Outcome). record { reply = updatedReply (c .result); memory = m } ∷ os) (c .met .1) ih
-        ∙ ap (λ (r : Updated). record { reply = updatedReply r; memory = updateMemory (c .args .0) (now (c .args .1 .0)) (now (c .args .1 .1 .0)) } ∷ run (nextEncoder r) (callsOf cs)) (c .met .0))
+        (ap₂ (λ (m : List ℕ) (os : List Outcome). record { reply = updatedReply (c .result); memory = m } ∷ os) (c .met .1) ih ∙ ap told (c .met .0))
+      where
+        told : Updated → List Outcome
+        told r =
+            let (self, (piece, (out, _))) = c .args in
+            record { reply = updatedReply r; memory = updateMemory self (now piece) (now out) } ∷ run (nextEncoder r) (callsOf cs)
 code-run s (finalizes c ∷ cs) f = step s (f .0) (go (c .result) (λ next. code-run next cs) (f .1))
   where
     go :
@@ -58,15 +62,22 @@ code-run s (finalizes c ∷ cs) f = step s (f .0) (go (c .result) (λ next. code
         outcomesOf (finalizes c ∷ cs) ≡ run s (callsOf (finalizes c ∷ cs))
     step s e ih =
         rw (← e)
-        (ap₂ (λ (m : List ℕ) (os : List Outcome). record { reply = finalizedReply (c .result); memory = m } ∷ os) (c .met .1) ih
-        ∙ ap (λ (r : Finalized). record { reply = finalizedReply r; memory = finalizeMemory (c .args .0) (now (c .args .1 .0)) } ∷ unlessFinal r [] (λ next. run next (callsOf cs))) (c .met .0))
+        (ap₂ (λ (m : List ℕ) (os : List Outcome). record { reply = finalizedReply (c .result); memory = m } ∷ os) (c .met .1) ih ∙ ap told (c .met .0))
+      where
+        told : Finalized → List Outcome
+        told r =
+            let (self, (out, _)) = c .args in
+            record { reply = finalizedReply r; memory = finalizeMemory self (now out) } ∷ unlessFinal r [] (λ next. run next (callsOf cs))
 
 -- an accepted `new` was handed a known number and returned a fresh encoder of its kind
 started-fresh : (n : ℕ) (s : SequenceEncoder) → startEncoderAt n ≡ EncoderStarted.Fresh s → (known n ≡ true) × (freshEncoder (kindOf n) ≡ s)
 unfolding startEncoderAt
 started-fresh n s e = go (known n) e
   where
-    go : (b : Bool) → (ask b else EncoderStarted.Refused (by 8 []) then EncoderStarted.Fresh (freshEncoder (kindOf n))) ≡ EncoderStarted.Fresh s → (b ≡ true) × (freshEncoder (kindOf n) ≡ s)
+    go :
+        (b : Bool) →
+        (ask b else EncoderStarted.Refused (by 8 []) then EncoderStarted.Fresh (freshEncoder (kindOf n))) ≡ EncoderStarted.Fresh s →
+        (b ≡ true) × (freshEncoder (kindOf n) ≡ s)
     go true q = (refl, cc)
     go false q = let z : _≡_ {A = ℕ} 0 1 = cc in absurd (omega arith)
 
@@ -82,7 +93,7 @@ module _ (l : EncoderList) where
   pub list-packs : Finished l → Packed (alphabetIn l) (textIn l) (bytesIn l)
   list-packs h =
       subst (λ (os : List Outcome). Packed (alphabetIn l) (acceptedText (callsOf (l .calls)) os) (written 0 os)) (sym list-run)
-      (fresh-packs (alphabetIn l) fresh-known (callsOf (l .calls)) (ap (finished (callsOf (l .calls))) (sym list-run) ∙ h))
+      (fresh-packs (alphabetIn l) fresh-known (callsOf (l .calls)) (ap (finished (callsOf (l .calls))) (sym list-run) ∙ h .ended))
 
 -- ---- `encode_sequence`
 

@@ -1,8 +1,9 @@
 -- The claim leaves no list out: whatever pieces and memory a list of calls names, for each known alphabet number there is a list that the contracts allow and
--- in which these calls are made, those behind an accepted `finalize` excepted. That the code meets its contracts is proved with the functions, not here.
-use mathlib.Core.Path.{_≡_, refl, ap}
-use mathlib.Core.Bool.{true}
-use mathlib.Core.List.{List, [], _∷_}
+-- in which these calls are made, those behind an accepted `finalize` excepted; and it is a finished one wherever the definitions accept a `finalize`. That the
+-- code meets its contracts is proved with the functions, not here.
+use mathlib.Core.Path.{_≡_, refl, sym, ap, ap₂, _∙_}
+use mathlib.Core.Bool.{true, cond}
+use mathlib.Core.List.{List, [], _∷_, _++_}
 use Prim.Native.Nat.{ℕ}
 use denote.Ref.{RefT}
 use lib.ListN.{length, take}
@@ -12,10 +13,11 @@ use Rattle.packing.specs.Encode.{freshEncoder, startEncoderAt, updateAt, update
 use Rattle.packing.specs.declared.encoder.SequenceEncoder.{SequenceEncoder}
 use Rattle.packing.specs.declared.encoder.EncoderStarted.{EncoderStarted}
 use Rattle.packing.specs.declared.encoder.Finalized.{Finalized}
-use Rattle.record.specs.Calls.{Call, update, finalize, Outcome}
+use Rattle.record.specs.Calls.{Call, update, finalize, Outcome, isAccepted, acceptedText, finished}
 use Rattle.record.specs.Runs.{nextEncoder, unlessFinal, run}
 use Rattle.record.specs.Made.{NewCall, UpdateCall, FinalizeCall}
-use Rattle.record.specs.EncoderLists.{CodeCall, updates, finalizes, Ends, Follows, callsOf, outcomesOf, EncoderList, alphabetIn}
+use Rattle.record.specs.EncoderLists.{CodeCall, updates, finalizes, Ends, Follows, callsOf, outcomesOf, EncoderList, alphabetIn, Finished, textIn}
+use Rattle.record.proofs.Whole.{accepted-nil}
 
 -- ---- a call for any state, piece and memory; of lifetimes and places in memory the contracts say nothing
 
@@ -117,3 +119,52 @@ every-list alphabet o cs = (
   },
   (refl, (made-calls (freshEncoder (kindOf alphabet)) cs, made-outcomes (freshEncoder (kindOf alphabet)) cs)),
 )
+
+-- ---- the calls that are not made, behind an accepted `finalize`, count for nothing
+
+made-finished : (s : SequenceEncoder) (cs : List Call) → finished (take (length (run s cs)) cs) (run s cs) ≡ finished cs (run s cs)
+unfolding run finished
+made-finished s [] = refl
+made-finished s (update piece memory ∷ cs) = made-finished (nextEncoder (updateAt s piece (length memory))) cs
+made-finished s (finalize memory ∷ cs) = go (finalizeAt s (length memory)) (λ next. made-finished next cs)
+  where
+    go :
+        (r : Finalized) →
+        ((next : SequenceEncoder) → finished (take (length (run next cs)) cs) (run next cs) ≡ finished cs (run next cs)) →
+        cond (isAccepted (finalizedReply r)) true
+        (finished (take (length (unlessFinal r [] (λ next. run next cs))) cs) (unlessFinal r [] (λ next. run next cs)))
+        ≡ cond (isAccepted (finalizedReply r)) true (finished cs (unlessFinal r [] (λ next. run next cs)))
+    go (Finalized.Wrote count) ih = refl
+    go (Finalized.Refused q next) ih = ap (cond (isAccepted (finalizedReply (Finalized.Refused q next))) true) (ih next)
+
+made-text : (s : SequenceEncoder) (cs : List Call) → acceptedText (take (length (run s cs)) cs) (run s cs) ≡ acceptedText cs (run s cs)
+unfolding run acceptedText
+made-text s [] = refl
+made-text s (update piece memory ∷ cs) =
+    ap (λ (rest : List ℕ). cond (isAccepted (updatedReply (updateAt s piece (length memory)))) piece [] ++ rest)
+    (made-text (nextEncoder (updateAt s piece (length memory))) cs)
+made-text s (finalize memory ∷ cs) = go (finalizeAt s (length memory)) (λ next. made-text next cs)
+  where
+    go :
+        (r : Finalized) →
+        ((next : SequenceEncoder) → acceptedText (take (length (run next cs)) cs) (run next cs) ≡ acceptedText cs (run next cs)) →
+        acceptedText (take (length (unlessFinal r [] (λ next. run next cs))) cs) (unlessFinal r [] (λ next. run next cs))
+        ≡ acceptedText cs (unlessFinal r [] (λ next. run next cs))
+    go (Finalized.Wrote count) ih = accepted-nil (take 0 cs) ∙ sym (accepted-nil cs)
+    go (Finalized.Refused q next) ih = ih next
+
+-- every list of calls of which a `finalize` is accepted is a finished one
+pub every-finished :
+    (alphabet : ℕ) →
+    known alphabet ≡ true →
+    (cs : List Call) →
+    finished cs (run (freshEncoder (kindOf alphabet)) cs) ≡ true →
+    (l : EncoderList) × (Finished l × ((alphabetIn l ≡ alphabet) × (textIn l ≡ acceptedText cs (run (freshEncoder (kindOf alphabet)) cs))))
+every-finished alphabet o cs h =
+    let l = every-list alphabet o cs in (
+      l .0,
+      (
+        record { ended = ap₂ finished (l .1 .1 .0) (l .1 .1 .1) ∙ made-finished (freshEncoder (kindOf alphabet)) cs ∙ h },
+        (l .1 .0, ap₂ acceptedText (l .1 .1 .0) (l .1 .1 .1) ∙ made-text (freshEncoder (kindOf alphabet)) cs),
+      ),
+    )

@@ -51,7 +51,7 @@ module _ (l : EncoderList) (w : Window l) where
   pub named-range : (w .from ≡ firstByte (A .width) (w .s)) × (w .to ≡ endByte (A .width) (w .e))
   named-range =
       range-names (w .s) (w .e) (A .width) (w .from) (w .to)
-      (sym (λ i. rangeAt (w .start-asked i) (w .end-asked i) (w .bits-asked i)) ∙ sym (w .range .met) ∙ w .named)
+      (sym (λ i. rangeAt (w .asked .0 i) (w .asked .1 i) (w .asked .2 i)) ∙ sym (w .range .met) ∙ w .named)
 
   pub packed-in : Packed (alphabetIn l) (textIn l) (bytesIn l)
   packed-in = list-packs l (w .finished)

@@ -31,13 +31,13 @@ use Rattle.streaming.specs.Count.{Place, begin, takenBy, complete, sourceOf, of
 use Rattle.streaming.proofs.Feeding.{Reachable}
 use Rattle.streaming.proofs.AllCalls.{MostInAll, reached-most}
 use Rattle.streaming.proofs.Ending.{end-is, end-window}
-use Rattle.record.specs.StreamLists.{sourceFor, memoryFor, Streaming, StreamList, alphabetOf, skipOf, budgetOf}
+use Rattle.record.specs.StreamLists.{stateFor, sourceFor, memoryFor, Streaming, StreamList, alphabetOf, skipOf, budgetOf}
 use Rattle.record.specs.Made.{ReadCall}
 use Rattle.record.specs.EncoderLists.{EncoderList, alphabetIn, textIn}
 use Rattle.record.specs.Decoders.{codingIn, Window}
 use Rattle.record.specs.Record.{codingOf, placeIn, basesIn, takenIn, Counted, GoesOn, wroteBy, Largest, Streams, StreamGives}
 use Rattle.record.proofs.Reading.{named-range, lent-serves}
-use Rattle.record.proofs.Streamed.{Comes, comes-fresh, no-bases, none-taken, length-bases, call, source-is, answers, next-taken}
+use Rattle.record.proofs.Streamed.{CallsOn, Comes, comes-fresh, no-bases, none-taken, length-bases, call, source-is, answers, next-taken}
 
 -- an accepted `new` was handed a skip below 8 and returned a fresh state
 started-stream : (n skip budget : ℕ) (s : StreamingDecoder) → startStreamAt n skip budget ≡ StreamStarted.Fresh s → (skip < 8) × (freshStream (kindOf n) skip budget ≡ s)
@@ -47,7 +47,9 @@ started-stream n skip budget s e = go (known n) (ltb skip 8) refl e
     go :
         (a b : Bool) →
         ltb skip 8 ≡ b →
-        (ask a else StreamStarted.Refused (by 8 []) then ask b else StreamStarted.Refused (by 6 []) then StreamStarted.Fresh (freshStream (kindOf n) skip budget)) ≡ StreamStarted.Fresh s →
+        (ask a else StreamStarted.Refused (by 8 []) then
+        ask b else StreamStarted.Refused (by 6 []) then
+        StreamStarted.Fresh (freshStream (kindOf n) skip budget)) ≡ StreamStarted.Fresh s →
         (skip < 8) × (freshStream (kindOf n) skip budget ≡ s)
     go true true l q = (ltb-true skip 8 l, cc)
     go true false l q = let z : _≡_ {A = ℕ} 0 1 = cc in absurd (omega arith)
@@ -65,7 +67,8 @@ module _ (t : StreamList) where
   list-comes : Comes (kindIn t) (skipOf t) (budgetOf t) (t .lent) (begin (skipOf t)) (t .fresh) (t .calls)
   list-comes =
       subst (λ (s : StreamingDecoder). Comes (kindIn t) (skipOf t) (budgetOf t) (t .lent) (begin (skipOf t)) s (t .calls)) (begun .1)
-      (comes-fresh (kindIn t) (skipOf t) (budgetOf t) (t .lent) (begun .0) (t .calls) (subst (λ (s : StreamingDecoder). Streaming (t .lent) s 0 (t .calls)) (sym (begun .1)) (t .follows)))
+      (comes-fresh (kindIn t) (skipOf t) (budgetOf t) (t .lent) (begun .0) (t .calls)
+      (subst (λ (s : StreamingDecoder). Streaming (t .lent) s 0 (t .calls)) (sym (begun .1)) (t .follows)))
 
   pub counted : Counted t
   counted =
@@ -102,7 +105,10 @@ module _ (kind : AlphabetType) (q budget : ℕ) (lent : List ℕ) (p : Place) (g
   unfolding offered takenBy
   still-due h = go (p .due) refl h
     where
-      go : (d : Bool) → p .due ≡ d → cond d 0 (bytesFor (q + p .k * coding kind .width)) + length (sourceOf lent (cond d 0 (bytesFor (q + p .k * coding kind .width))) m) < bytesFor q → d ≡ true
+      took : Bool → ℕ
+      took d = cond d 0 (bytesFor (q + p .k * coding kind .width))
+
+      go : (d : Bool) → p .due ≡ d → took d + length (sourceOf lent (took d) m) < bytesFor q → d ≡ true
       go true e h = refl
       go false e h = absurd (omega arith)
 
@@ -128,22 +134,26 @@ module _ (t : StreamList) (c : ReadCall) (on : GoesOn t c) where
   reach : Reachable (kindIn t) (skipOf t) (budgetOf t) (t .lent) p
   reach = list-comes t .reach
 
-  given : c .args .0 ≡ standsFor (kindIn t) (skipOf t) (budgetOf t) (t .lent) p
+  given : stateFor c ≡ standsFor (kindIn t) (skipOf t) (budgetOf t) (t .lent) p
   given = on .state ∙ list-comes t .last
+
+  from : CallsOn (kindIn t) (skipOf t) (budgetOf t) (t .lent) p (takenIn t) c
+  from = record { reach = reach; state = given; so-far = counted t .took; source = on .source }
 
   result-is :
       c .result
       ≡ Streamed.Moved (takenBy A (skipOf t) then-at - takenBy A (skipOf t) p) (then-at .k - p .k)
-      (cond (then-at .due) Hungry (statusOf (budgetOf t - then-at .k) (length (memoryFor c) - (then-at .k - p .k)))) (standsFor (kindIn t) (skipOf t) (budgetOf t) (t .lent) then-at)
-  result-is = answers (kindIn t) (skipOf t) (budgetOf t) (t .lent) (begun t .0) p c reach (takenIn t) given (counted t .took) (on .source)
+      (cond (then-at .due) Hungry (statusOf (budgetOf t - then-at .k) (length (memoryFor c) - (then-at .k - p .k))))
+      (standsFor (kindIn t) (skipOf t) (budgetOf t) (t .lent) then-at)
+  result-is = answers (kindIn t) (skipOf t) (budgetOf t) (t .lent) (begun t .0) p (takenIn t) c from
 
   offered-is : offered A (skipOf t) (budgetOf t) (t .lent) p (length (sourceFor c)) ≡ takenIn t + length (sourceFor c)
   unfolding offered
   offered-is =
       ap₂ (λ (x : ℕ) (l : List ℕ). x + length l) (sym (counted t .took))
-      (sym (source-is (kindIn t) (skipOf t) (budgetOf t) (t .lent) (begun t .0) p c reach (takenIn t) given (counted t .took) (on .source)))
+      (sym (source-is (kindIn t) (skipOf t) (budgetOf t) (t .lent) (begun t .0) p (takenIn t) c from))
 
-  pub waiting : takenIn t + length (sourceFor c) < bytesFor (skipOf t) → c .result ≡ Streamed.Moved 0 0 Hungry (c .args .0)
+  pub waiting : takenIn t + length (sourceFor c) < bytesFor (skipOf t) → c .result ≡ Streamed.Moved 0 0 Hungry (stateFor c)
   waiting h =
       let few : offered A (skipOf t) (budgetOf t) (t .lent) p (length (sourceFor c)) < bytesFor (skipOf t) = omega (arith, offered-is) in
       let due : p .due ≡ true = still-due (kindIn t) (skipOf t) (budgetOf t) (t .lent) p reach (length (sourceFor c)) (length (memoryFor c)) few in
@@ -176,7 +186,7 @@ module _ (t : StreamList) (c : ReadCall) (on : GoesOn t c) where
       at-k = flows (kindIn t) (skipOf t) (budgetOf t) (t .lent) p reach m room some
 
       grown : p .k ≤ then-at .k
-      grown = call (kindIn t) (skipOf t) (budgetOf t) (t .lent) (begun t .0) p c reach (takenIn t) given (counted t .took) (on .source) .grows .0
+      grown = call (kindIn t) (skipOf t) (budgetOf t) (t .lent) (begun t .0) p (takenIn t) c from .grows .0
 
       total-is : length (basesIn t) + wroteBy (c .result) ≡ k
       total-is = omega (arith, bases-length t, ap wroteBy result-is, grown, ap (λ (x : Place). x .k) at-k)
@@ -192,7 +202,7 @@ module _ (t : StreamList) (c : ReadCall) (on : GoesOn t c) where
             suffices = omega (arith, most .suffices, offered-is);
             most = λ j a b d. most .most j a (omega (arith, bases-length t)) (omega (arith, offered-is));
             takes =
-                next-taken (kindIn t) (skipOf t) (budgetOf t) (t .lent) (begun t .0) p c reach (takenIn t) given (counted t .took) (on .source)
+                next-taken (kindIn t) (skipOf t) (budgetOf t) (t .lent) (begun t .0) p (takenIn t) c from
                 ∙ ap (takenBy A (skipOf t)) at-k;
           }
 
@@ -244,13 +254,15 @@ module _ (l : EncoderList) (w : Window l) (t : StreamList) (set : Streams l w t)
             counted t .wrote
             ∙ (λ i. basesBetween (numbered (set .by-alphabet i)) (set .skips i) (set .budgets i) (t .lent) 0 k)
             ∙ bases-window (codingIn l) (t .lent) (w .from) (w .s * codingIn l .width % 8) (w .s) n k (omega (arith, named-range l w .0))
-            ∙ window-first (alphabetIn l) (textIn l) (t .lent) (w .from) (w .s) (w .e) (lent-serves l w (w .from) (t .lent) (omega arith) (set .lends)) k (omega (arith, within, w .some))
+            ∙ window-first (alphabetIn l) (textIn l) (t .lent) (w .from) (w .s) (w .e) (lent-serves l w (w .from) (t .lent) (omega arith) (set .lends)) k
+            (omega (arith, within, w .some))
             ∙ ap (map (codingIn l .canon)) (sym (take-take k n (drop (w .s) (textIn l)) within))
             ∙ sym (take-map (codingIn l .canon) k (take n (drop (w .s) (textIn l))));
-        ends = λ c given.
-            ap endedReply (c .met ∙ ap endAt (given ∙ list-comes t .last) ∙ end-is kind-of q-of b-of (t .lent) (placeIn t) (begun t .0) (list-comes t .reach))
+        ends = λ c on.
+            ap endedReply (c .met ∙ ap endAt (on .state ∙ list-comes t .last) ∙ end-is kind-of q-of b-of (t .lent) (placeIn t) (begun t .0) (list-comes t .reach))
             ∙ ended-reply (complete b-of (placeIn t)) (b-of - k) (standsFor kind-of q-of b-of (t .lent) (placeIn t))
-            ∙ ap (λ (b : Bool). cond b (accepted []) (refused 7 ((b-of - k) ∷ []))) (end-window kind-of q-of b-of (t .lent) (placeIn t) (omega (arith, set .budgets, w .some)) (list-comes t .reach))
+            ∙ ap (λ (b : Bool). cond b (accepted []) (refused 7 ((b-of - k) ∷ [])))
+            (end-window kind-of q-of b-of (t .lent) (placeIn t) (omega (arith, set .budgets, w .some)) (list-comes t .reach))
             ∙ (λ i. cond (eqb k (set .budgets i)) (accepted []) (refused 7 ((set .budgets i - k) ∷ [])));
       }
     where

@@ -21,7 +21,8 @@ use Rattle.packing.specs.declared.encoder.SequenceEncoder.{SequenceEncoder}
 use Rattle.packing.specs.declared.encoder.Updated.{Updated}
 use Rattle.packing.specs.declared.encoder.Finalized.{Finalized}
 use Rattle.packing.specs.Answers.{updatedReply, finalizedReply}
-use Rattle.packing.specs.Encode.{digitOf, packing, firstFrom, unlessBad, freshEncoder, pieceBits, pieceBitCount, updateAt, updateWrites, updateMemory, finalizeAt, finalizeWrites, finalizeMemory}
+use Rattle.packing.specs.Encode.{digitOf, packing, firstFrom, unlessBad, freshEncoder, pieceBits, pieceBitCount}
+use Rattle.packing.specs.Encode.{updateAt, updateWrites, updateMemory, finalizeAt, finalizeWrites, finalizeMemory}
 use Rattle.record.specs.Calls.{Call, update, finalize, Outcome, isAccepted}
 use Rattle.record.specs.Tally.{textPacked, bytesFilled, membersAhead, Turn, stay, completes, updateTurn, finalizeTurn, shown, tally}
 use Rattle.record.specs.Runs.{nextEncoder, unlessFinal, run}
@@ -78,7 +79,8 @@ module _ (k : AlphabetType) (text piece : List ℕ) where
       let f : ℕ = bytesFilled A (length text) in
       let c : ℕ = completes A text piece in
       let fits : f + c ≤ bytesFor (length (text ++ piece) * A .width) = omega (arith, length-both k text piece, add-mul (length text) (length piece) (A .width)) in
-      cut-moved 8 (pieceBits (stateOf k text) piece) (textBits A (text ++ piece)) 0 (f * 8) c (λ i h. ap (pieceBits (stateOf k text) piece) (zero-add i) ∙ piece-bits k text piece i)
+      cut-moved 8 (pieceBits (stateOf k text) piece) (textBits A (text ++ piece)) 0 (f * 8) c
+      (λ i h. ap (pieceBits (stateOf k text) piece) (zero-add i) ∙ piece-bits k text piece i)
       ∙ sym (part-cut 8 (textBits A (text ++ piece)) f c (bytesFor (length (text ++ piece) * A .width)) fits)
       ∙ ap (λ (l : List ℕ). take c (drop f l)) (sym (same-packing A (text ++ piece) ∙ packing-cut A (text ++ piece)))
 

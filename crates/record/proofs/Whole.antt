@@ -48,7 +48,7 @@ all-members A (x ∷ text) e = go (A .member x) refl e (all-members A text)
     go true m e ih (suc i) h = ih (omega arith) i (le-of-suc-le-suc h)
     go false m e ih i h = absurd (omega arith)
 
-accepted-nil : (cs : List Call) → acceptedText cs [] ≡ []
+pub accepted-nil : (cs : List Call) → acceptedText cs [] ≡ []
 unfolding acceptedText
 accepted-nil [] = refl
 accepted-nil (c ∷ cs) = refl

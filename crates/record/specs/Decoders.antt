@@ -32,9 +32,7 @@ pub record Window (l : EncoderList) : Type 0 where
   pub some : s < e
   pub inside : e ≤ length (textIn l)
   pub range : RangeCall
-  pub start-asked : range .args .0 ≡ s
-  pub end-asked : range .args .1 .0 ≡ e
-  pub bits-asked : range .args .1 .1 .0 ≡ codingIn l .width
+  pub asked : let (start, (end, (bits, _))) = range .args in (start ≡ s) × (end ≡ e) × (bits ≡ codingIn l .width)
   pub from : ℕ
   pub to : ℕ
   pub named : range .result ≡ Range.Bytes from to
@@ -43,9 +41,11 @@ pub record Window (l : EncoderList) : Type 0 where
 abbrev pub symbolsIn : (l : EncoderList) → Window l → List ℕ
 symbolsIn l w = map (codingIn l .canon) (take (w .e - w .s) (drop (w .s) (textIn l)))
 
--- bytes lent for it: the file's from byte `offset` to the range's end, the bits of the window's own symbols as they were written, whatever all others hold
+-- bytes lent for it
 pub record Lent (l : EncoderList) (w : Window l) (offset : ℕ) (lent : List ℕ) : Type 0 where
+  -- the file's from byte `offset` to the range's end
   pub ends : length lent ≡ w .to - offset
+  -- the bits of the window's own symbols as they were written, whatever all others hold
   pub own : (i : ℕ) → w .s * codingIn l .width ≤ i → i < w .e * codingIn l .width → bitAt 8 (fileByte lent offset) i ≡ bitAt 8 (at (bytesIn l)) i
 
 -- ---- a decoder's call
@@ -70,85 +70,37 @@ pub record Handed : Type 0 where
   pub result : Read
   pub afterwards : List ℕ
 
--- where a decoder does not take the alphabet, it serves its own; where it does not take byte_offset or start, they are fixed at 0
+-- each decoder's parameters by their names, in their order; where it does not take the alphabet, it serves its own; where it does not take byte_offset or start,
+-- they are fixed at 0
 abbrev pub handed : DecoderCall → Handed
 handed (at-offset c) =
-    record {
-      alphabet = c .args .0;
-      lent = now (c .args .1 .0);
-      offset = c .args .1 .1 .0;
-      start = c .args .1 .1 .1 .0;
-      end = c .args .1 .1 .1 .1 .0;
-      memory = now (c .args .1 .1 .1 .1 .1 .0);
-      result = c .result;
-      afterwards = now (c .exit .1 .1 .1 .1 .1 .0);
-    }
+    let (alphabet, (bytes, («byte_offset», (start, (end, (out, _)))))) = c .args in
+    let (_, (_, (_, (_, (_, (after, _)))))) = c .exit in
+    record { alphabet = alphabet; lent = now bytes; offset = «byte_offset»; start = start; end = end; memory = now out; result = c .result; afterwards = now after }
 handed (substring c) =
-    record {
-      alphabet = c .args .0;
-      lent = now (c .args .1 .0);
-      offset = 0;
-      start = c .args .1 .1 .0;
-      end = c .args .1 .1 .1 .0;
-      memory = now (c .args .1 .1 .1 .1 .0);
-      result = c .result;
-      afterwards = now (c .exit .1 .1 .1 .1 .0);
-    }
+    let (alphabet, (bytes, (start, (end, (out, _))))) = c .args in
+    let (_, (_, (_, (_, (after, _))))) = c .exit in
+    record { alphabet = alphabet; lent = now bytes; offset = 0; start = start; end = end; memory = now out; result = c .result; afterwards = now after }
 handed (string c) =
-    record {
-      alphabet = c .args .0;
-      lent = now (c .args .1 .0);
-      offset = 0;
-      start = 0;
-      end = c .args .1 .1 .0;
-      memory = now (c .args .1 .1 .1 .0);
-      result = c .result;
-      afterwards = now (c .exit .1 .1 .1 .0);
-    }
+    let (alphabet, (bytes, («seq_len», (out, _)))) = c .args in
+    let (_, (_, (_, (after, _)))) = c .exit in
+    record { alphabet = alphabet; lent = now bytes; offset = 0; start = 0; end = «seq_len»; memory = now out; result = c .result; afterwards = now after }
 handed (covered c) =
-    record {
-      alphabet = c .args .0;
-      lent = now (c .args .1 .0);
-      offset = c .args .1 .1 .0;
-      start = c .args .1 .1 .1 .0;
-      end = c .args .1 .1 .1 .1 .0;
-      memory = now (c .args .1 .1 .1 .1 .1 .0);
-      result = c .result;
-      afterwards = now (c .exit .1 .1 .1 .1 .1 .0);
-    }
+    let (alphabet, (bytes, («byte_offset», (start, (end, (out, _)))))) = c .args in
+    let (_, (_, (_, (_, (_, (after, _)))))) = c .exit in
+    record { alphabet = alphabet; lent = now bytes; offset = «byte_offset»; start = start; end = end; memory = now out; result = c .result; afterwards = now after }
 handed (two-bit c) =
-    record {
-      alphabet = numberOf Dna2bit;
-      lent = now (c .args .0);
-      offset = c .args .1 .0;
-      start = c .args .1 .1 .0;
-      end = c .args .1 .1 .1 .0;
-      memory = now (c .args .1 .1 .1 .1 .0);
-      result = c .result;
-      afterwards = now (c .exit .1 .1 .1 .1 .0);
-    }
+    let (bytes, («byte_offset», (start, (end, (out, _))))) = c .args in
+    let (_, (_, (_, (_, (after, _))))) = c .exit in
+    record { alphabet = numberOf Dna2bit; lent = now bytes; offset = «byte_offset»; start = start; end = end; memory = now out; result = c .result; afterwards = now after }
 handed (three-bit c) =
-    record {
-      alphabet = numberOf Dna3bit;
-      lent = now (c .args .0);
-      offset = c .args .1 .0;
-      start = c .args .1 .1 .0;
-      end = c .args .1 .1 .1 .0;
-      memory = now (c .args .1 .1 .1 .1 .0);
-      result = c .result;
-      afterwards = now (c .exit .1 .1 .1 .1 .0);
-    }
+    let (bytes, («byte_offset», (start, (end, (out, _))))) = c .args in
+    let (_, (_, (_, (_, (after, _))))) = c .exit in
+    record { alphabet = numberOf Dna3bit; lent = now bytes; offset = «byte_offset»; start = start; end = end; memory = now out; result = c .result; afterwards = now after }
 handed (rolling c) =
-    record {
-      alphabet = c .args .0;
-      lent = now (c .args .1 .0);
-      offset = c .args .1 .1 .0;
-      start = c .args .1 .1 .1 .0;
-      end = c .args .1 .1 .1 .1 .0;
-      memory = now (c .args .1 .1 .1 .1 .1 .0);
-      result = c .result;
-      afterwards = now (c .exit .1 .1 .1 .1 .1 .0);
-    }
+    let (alphabet, (bytes, («byte_offset», (start, (end, (out, _)))))) = c .args in
+    let (_, (_, (_, (_, (_, (after, _)))))) = c .exit in
+    record { alphabet = alphabet; lent = now bytes; offset = «byte_offset»; start = start; end = end; memory = now out; result = c .result; afterwards = now after }
 
 -- whether it takes a byte_offset
 abbrev pub takesOffset : DecoderCall → Bool

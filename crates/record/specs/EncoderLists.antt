@@ -25,20 +25,22 @@ Ends (c ∷ cs) = ⊥
 -- the first call is handed the state s, each later one the state last returned, and an accepted `finalize` ends the list
 abbrev pub Follows : SequenceEncoder → List CodeCall → Type 0
 Follows s [] = Unit {0}
-Follows s (updates c ∷ cs) = (c .args .0 ≡ s) × Follows (nextEncoder (c .result)) cs
-Follows s (finalizes c ∷ cs) = (c .args .0 ≡ s) × unlessFinal (c .result) (Ends cs) (λ next. Follows next cs)
+Follows s (updates c ∷ cs) = let (self, _) = c .args in (self ≡ s) × Follows (nextEncoder (c .result)) cs
+Follows s (finalizes c ∷ cs) = let (self, _) = c .args in (self ≡ s) × unlessFinal (c .result) (Ends cs) (λ next. Follows next cs)
 
 -- what the calls are handed besides: pieces, and what memory holds before
 abbrev pub callsOf : List CodeCall → List Call
 callsOf [] = []
-callsOf (updates c ∷ cs) = update (now (c .args .1 .0)) (now (c .args .1 .1 .0)) ∷ callsOf cs
-callsOf (finalizes c ∷ cs) = finalize (now (c .args .1 .0)) ∷ callsOf cs
+callsOf (updates c ∷ cs) = let (self, (piece, (out, _))) = c .args in update (now piece) (now out) ∷ callsOf cs
+callsOf (finalizes c ∷ cs) = let (self, (out, _)) = c .args in finalize (now out) ∷ callsOf cs
 
 -- what comes of them: what each tells, and what its memory holds afterwards
 abbrev pub outcomesOf : List CodeCall → List Outcome
 outcomesOf [] = []
-outcomesOf (updates c ∷ cs) = record { reply = updatedReply (c .result); memory = now (c .exit .1 .1 .0) } ∷ outcomesOf cs
-outcomesOf (finalizes c ∷ cs) = record { reply = finalizedReply (c .result); memory = now (c .exit .1 .0) } ∷ outcomesOf cs
+outcomesOf (updates c ∷ cs) =
+    let (self, (piece, (out, _))) = c .exit in record { reply = updatedReply (c .result); memory = now out } ∷ outcomesOf cs
+outcomesOf (finalizes c ∷ cs) =
+    let (self, (out, _)) = c .exit in record { reply = finalizedReply (c .result); memory = now out } ∷ outcomesOf cs
 
 -- a fresh encoder, which an accepted `new` returned, and a list of calls from it
 pub record EncoderList : Type 0 where
@@ -50,11 +52,12 @@ pub record EncoderList : Type 0 where
 
 -- the alphabet number that `new` was handed
 abbrev pub alphabetIn : EncoderList → ℕ
-alphabetIn l = l .new .args .0
+alphabetIn l = let (alphabet, _) = l .new .args in alphabet
 
--- a `finalize` of the list was accepted
-abbrev pub Finished : EncoderList → Type 0
-Finished l = finished (callsOf (l .calls)) (outcomesOf (l .calls)) ≡ true
+-- a finished list
+pub record Finished (l : EncoderList) : Type 0 where
+  -- a `finalize` of it was accepted
+  pub ended : finished (callsOf (l .calls)) (outcomesOf (l .calls)) ≡ true
 
 -- the accepted pieces, joined, and the bytes written, joined
 abbrev pub textIn : EncoderList → List ℕ

@@ -26,21 +26,29 @@ use Rattle.record.specs.Made.{EncodeCall, ReadCall, EndCall}
 use Rattle.record.specs.EncoderLists.{EncoderList, callsOf, outcomesOf, alphabetIn, Finished, textIn, bytesIn}
 use Rattle.record.specs.Decoders.{codingIn, Window, symbolsIn, Lent, DecoderCall, handed, Set, Gives}
 use Rattle.record.specs.StreamTally.{streamTally, placeOf, total}
-use Rattle.record.specs.StreamLists.{StreamList, sourceFor, memoryFor, askedOf, streamedOf, lastState, alphabetOf, skipOf, budgetOf}
+use Rattle.record.specs.StreamLists.{StreamList, stateFor, sourceFor, memoryFor, stateAtEnd, askedOf, streamedOf, lastState, alphabetOf, skipOf, budgetOf}
 
 -- ---- a call of `encode_sequence`: its alphabet number, its text, and its memory before and afterwards
 
 abbrev pub alphabetFor : EncodeCall → ℕ
-alphabetFor e = e .args .0
+alphabetFor e = let (alphabet, (text, (out, _))) = e .args in alphabet
 
 abbrev pub textFor : EncodeCall → List ℕ
-textFor e = now (e .args .1 .0)
+textFor e = let (alphabet, (text, (out, _))) = e .args in now text
 
 abbrev pub before : EncodeCall → List ℕ
-before e = now (e .args .1 .1 .0)
+before e = let (alphabet, (text, (out, _))) = e .args in now out
 
 abbrev pub afterwards : EncodeCall → List ℕ
-afterwards e = now (e .exit .1 .1 .0)
+afterwards e = let (alphabet, (text, (out, _))) = e .exit in now out
+
+-- a call with the pieces of an encoder's list, joined
+pub record AtOnce (l : EncoderList) (e : EncodeCall) : Type 0 where
+  -- by the list's alphabet
+  pub by-alphabet : alphabetFor e ≡ alphabetIn l
+  pub text : textFor e ≡ textIn l
+  -- given enough output memory
+  pub room : length (bytesIn l) ≤ length (before e)
 
 -- ---- a stream's list: its coding, where the count stands after it, and in all the bases written, joined, and the bytes taken
 
@@ -65,10 +73,17 @@ pub record Counted (t : StreamList) : Type 0 where
   -- and the count's bytes are taken
   pub took : takenIn t ≡ takenBy (codingOf t) (skipOf t) (placeIn t)
 
--- a stream call that goes on behind a list: from the state last returned, its source a run of the lent bytes from the first not yet taken
+-- a stream call that goes on behind a list
 pub record GoesOn (t : StreamList) (c : ReadCall) : Type 0 where
-  pub state : c .args .0 ≡ lastState (t .fresh) (t .calls)
+  -- from the state last returned
+  pub state : stateFor c ≡ lastState (t .fresh) (t .calls)
+  -- its source a run, perhaps empty, of the lent bytes from the first not yet taken
   pub source : sourceFor c ≡ sourceOf (t .lent) (takenIn t) (length (sourceFor c))
+
+-- an end call behind a list
+pub record EndsIt (t : StreamList) (c : EndCall) : Type 0 where
+  -- handed the state last returned
+  pub state : stateAtEnd c ≡ lastState (t .fresh) (t .calls)
 
 -- the bases that an answer wrote
 abbrev pub wroteBy : Streamed → ℕ
@@ -89,11 +104,13 @@ pub record Largest (t : StreamList) (c : ReadCall) (k : ℕ) : Type 0 where
       j ≤ k
   pub takes : takenIn t + tookBy (c .result) ≡ bytesFor (skipOf t + k * codingOf t .width)
 
--- a stream set to a window, lent the bytes that the window's range names
+-- a stream set to a window, whatever its calls
 pub record Streams (l : EncoderList) (w : Window l) (t : StreamList) : Type 0 where
+  -- by its list's alphabet, q the remainder of s · b by 8, the budget e − s
   pub by-alphabet : alphabetOf t ≡ alphabetIn l
   pub skips : skipOf t ≡ w .s * codingIn l .width % 8
   pub budgets : budgetOf t ≡ w .e - w .s
+  -- lent the bytes that the window's range names
   pub lends : Lent l w (w .from) (t .lent)
 
 -- what it has given after its list: the first k of the window's symbols
@@ -102,7 +119,7 @@ pub record StreamGives (l : EncoderList) (w : Window l) (t : StreamList) : Type 
   -- an end call is accepted exactly when k is e − s, else refused by 7 with e − s − k
   pub ends :
       (c : EndCall) →
-      c .args .0 ≡ lastState (t .fresh) (t .calls) →
+      EndsIt t c →
       endedReply (c .result) ≡ cond (eqb (placeIn t .k) (w .e - w .s)) (accepted []) (refused 7 ((w .e - w .s - placeIn t .k) ∷ []))
 
 -- ---- the claim
@@ -119,9 +136,7 @@ pub record Record : Type 0 where
       (l : EncoderList) →
       Finished l →
       (e : EncodeCall) →
-      alphabetFor e ≡ alphabetIn l →
-      textFor e ≡ textIn l →
-      length (bytesIn l) ≤ length (before e) →
+      AtOnce l e →
       (e .result ≡ Encoded.Wrote (length (bytesIn l))) × (afterwards e ≡ front (bytesIn l) (before e))
   -- whatever text it accepts, it packs
   pub encodes : (e : EncodeCall) (count : ℕ) → e .result ≡ Encoded.Wrote count → Packed (alphabetFor e) (textFor e) (take count (afterwards e))
@@ -133,7 +148,7 @@ pub record Record : Type 0 where
   -- with k and the bytes taken by document 01's count, as every stream's list, its window's or not
   pub counts : (t : StreamList) → Counted t
   -- that is: nothing while the skip is due and no byte has come, and from then on the largest number
-  pub waits : (t : StreamList) (c : ReadCall) → GoesOn t c → takenIn t + length (sourceFor c) < bytesFor (skipOf t) → c .result ≡ Streamed.Moved 0 0 Hungry (c .args .0)
+  pub waits : (t : StreamList) (c : ReadCall) → GoesOn t c → takenIn t + length (sourceFor c) < bytesFor (skipOf t) → c .result ≡ Streamed.Moved 0 0 Hungry (stateFor c)
   pub largest :
       (t : StreamList) (c : ReadCall) → GoesOn t c → bytesFor (skipOf t) ≤ takenIn t + length (sourceFor c) → Largest t c (length (basesIn t) + wroteBy (c .result))
   -- two sequences of members of one alphabet have equal packed bytes exactly when one is the other followed by zero or more symbols of code zero and their

@@ -1,5 +1,6 @@
--- The worked table. States the starred rows of document 01, "Worked table", and for each alphabet a row of codes from "Leaf 1", as one list of calls and
--- what comes of them.
+-- The worked table. States the starred rows of document 01, "Worked table", for each alphabet a row of codes and its name from "Leaf 1", and then rows for what
+-- the words settle and no starred row shows: each status, each bound, and which question comes first where two are answered by no. One list of calls and what
+-- comes of them, in numbers and texts that are written out.
 use Prim.Native.Nat.{ℕ}
 use Prim.Native.String.{String}
 use mathlib.Core.Path.{_≡_}
@@ -8,93 +9,250 @@ use lib.ListN.{length, replicate}
 use Rattle.bits.specs.Memory.{front}
 use Rattle.alphabet.specs.declared.kind.AlphabetType.{AlphabetType}
 use Rattle.alphabet.specs.declared.kind.AlphabetType.the-variants.{Dna2bit, Dna3bit, DnaIupac, Protein, Ascii, Unknown}
-use Rattle.alphabet.specs.Questions.{by, accepted, refused}
+use Rattle.alphabet.specs.Questions.{Reply, accepted, refused, refusalReply}
 use Rattle.alphabet.specs.Symbols.{bytesOf, coding}
-use Rattle.alphabet.specs.Names.{numberOf}
-use Rattle.alphabet.specs.Guess.{guessOf}
-use Rattle.packing.specs.declared.sequence.Encoded.{Encoded}
-use Rattle.packing.specs.declared.range.Range.{Range}
-use Rattle.packing.specs.Encode.{encodeAt, encodeMemory}
+use Rattle.alphabet.specs.Names.{displayName, numberOf, kindOf, namedAt}
+use Rattle.alphabet.specs.Guess.{guessOf, guessAt}
+use Rattle.alphabet.specs.Answers.{namedReply, guessedReply}
+use Rattle.packing.specs.declared.first.First.{First}
+use Rattle.packing.specs.declared.encoder.SequenceEncoder.{SequenceEncoder}
+use Rattle.packing.specs.Encode.{encodeAt, encodeMemory, updateAt, finalizeAt}
 use Rattle.packing.specs.Range.{rangeAt}
-use Rattle.windows.specs.declared.read.Read.{Read}
+use Rattle.packing.specs.Answers.{encodedReply, updatedReply, finalizedReply, rangeReply}
 use Rattle.windows.specs.Window.{readAt, readMemory, coveredAt, coveredMemory}
-use Rattle.streaming.specs.Stream.{freshStream, streamAt, streamMemory, endAt}
-use Rattle.streaming.specs.Answers.{streamedReply, endedReply}
+use Rattle.windows.specs.Answers.{readReply}
+use Rattle.streaming.specs.declared.decoder.StreamStarted.{StreamStarted}
+use Rattle.streaming.specs.Stream.{startStreamAt, streamAt, streamMemory, endAt}
+use Rattle.streaming.specs.Answers.{streamStartedReply, streamedReply, endedReply}
 use Rattle.streaming.specs.Count.{nextBy}
 
--- output memory of nine bytes, none of them zero
-abbrev pub blank : List ℕ
-blank = replicate 9 0xaa
+-- ---- rows
 
--- four bytes for a stream, none of them zero
-abbrev pub cells : List ℕ
-cells = replicate 4 0xaa
+-- what comes of a call
+pub data Told : Type 0 where
+  -- what it tells by number
+  tells : Reply → Told
+  -- that, and its output memory afterwards
+  leaves : Reply → List ℕ → Told
+  -- of a stream call these, and what an end call then tells
+  streams : Reply → List ℕ → Reply → Told
+  -- an alphabet, and bytes
+  kind : AlphabetType → Told
+  bytes : List ℕ → Told
 
--- a row: what is asked, and its answer
-pub data Row : Type 0 where
-  -- a text packed whole, into blank memory: the bytes written, or the position and the byte of the first non-member
-  packs : AlphabetType → String → List ℕ → Row
-  refuses : AlphabetType → String → ℕ → ℕ → Row
-  -- a byte range
-  range : ℕ → ℕ → ℕ → ℕ → ℕ → Row
-  -- bytes at offset 0 and a window, read into blank memory: its symbols; and the covered read's refusal
-  reads : AlphabetType → List ℕ → ℕ → ℕ → String → Row
-  uncovered : AlphabetType → List ℕ → ℕ → ℕ → Row
-  -- a fresh stream's alphabet, skip and budget, a source and four bytes of memory that stay as they are: the bytes taken, the bases written and the status by
-  -- number (1 is Hungry); and the bases outstanding, by which an end call is then refused
-  starves : AlphabetType → ℕ → ℕ → List ℕ → ℕ → ℕ → ℕ → ℕ → Row
-  -- the guess for a text
-  guess : String → AlphabetType → Row
-  -- the encoding table's entries for the bytes of a text
-  codes : AlphabetType → String → List ℕ → Row
+-- a row: what comes of a call by the definitions, and what the rules say
+pub record Row : Type 0 where
+  pub call : Told
+  pub answer : Told
 
--- what a row says
-abbrev pub Holds : Row → Type 0
-Holds (packs kind text bytes) =
-    (encodeAt (numberOf kind) (bytesOf text) (length blank) ≡ Encoded.Wrote (length bytes)) × (encodeMemory (numberOf kind) (bytesOf text) blank ≡ front bytes blank)
-Holds (refuses kind text position byte) =
-    (encodeAt (numberOf kind) (bytesOf text) (length blank) ≡ Encoded.Refused (by 5 (position ∷ byte ∷ []))) × (encodeMemory (numberOf kind) (bytesOf text) blank ≡ blank)
-Holds (range start end bits from to) = rangeAt start end bits ≡ Range.Bytes from to
-Holds (reads kind lent start end text) =
-    (readAt (numberOf kind) 0 start end (length blank) ≡ Read.Bases (length (bytesOf text))) × (readMemory (numberOf kind) lent 0 start end blank ≡ front (bytesOf text) blank)
-Holds (uncovered kind lent start end) =
-    (coveredAt (numberOf kind) lent 0 start end (length blank) ≡ Read.Refused (by 3 [])) × (coveredMemory (numberOf kind) lent 0 start end blank ≡ blank)
-Holds (starves kind skip budget source taken written status outstanding) =
-    (streamedReply (streamAt (freshStream kind skip budget) source (length cells)) ≡ accepted (taken ∷ written ∷ status ∷ []))
-    × ((streamMemory (freshStream kind skip budget) source cells ≡ cells)
-    × (endedReply (endAt (nextBy (streamAt (freshStream kind skip budget) source (length cells)))) ≡ refused 7 (outstanding ∷ [])))
-Holds (guess text kind) = guessOf (bytesOf text) ≡ kind
-Holds (codes kind text entries) = map (coding kind .code) (bytesOf text) ≡ entries
+infix 68 _gives_
+abbrev pub _gives_ : Told → Told → Row
+call gives answer = record { call = call; answer = answer }
 
 -- every row of a list holds
 abbrev pub Hold : List Row → Type 0
-Hold [] = Unit {0}
-Hold (r ∷ rs) = Holds r × Hold rs
+Hold rs = map (λ r. r .call) rs ≡ map (λ r. r .answer) rs
+
+-- ---- calls
+
+-- output memory of n bytes, none of them zero
+abbrev pub blank : ℕ → List ℕ
+blank n = replicate n 0xaa
+
+-- a text packed whole, into memory of nine bytes
+abbrev pub packs : AlphabetType → String → Told
+packs k text = leaves (encodedReply (encodeAt (numberOf k) (bytesOf text) 9)) (encodeMemory (numberOf k) (bytesOf text) (blank 9))
+
+-- bytes at offset 0 and a window, read into memory of nine bytes, by a zero-filling and by the covered read
+abbrev pub reads : AlphabetType → List ℕ → ℕ → ℕ → Told
+reads k lent start end = leaves (readReply (readAt (numberOf k) 0 start end 9)) (readMemory (numberOf k) lent 0 start end (blank 9))
+
+abbrev pub covers : AlphabetType → List ℕ → ℕ → ℕ → Told
+covers k lent start end =
+    leaves (readReply (coveredAt (numberOf k) lent 0 start end 9)) (coveredMemory (numberOf k) lent 0 start end (blank 9))
+
+-- the state that an accepted `new` returned, with a source and memory of `room` bytes, and the end call behind it
+abbrev pub streamed : StreamStarted → List ℕ → ℕ → Told
+streamed (StreamStarted.Fresh s) source room =
+    streams (streamedReply (streamAt s source room)) (streamMemory s source (blank room)) (endedReply (endAt (nextBy (streamAt s source room))))
+streamed (StreamStarted.Refused q) source room = tells (refusalReply q)
+
+-- an alphabet, a skip and a budget; a source and the length of the output memory
+abbrev pub stream : AlphabetType → ℕ → ℕ → List ℕ → ℕ → Told
+stream k skip budget source room = streamed (startStreamAt (numberOf k) skip budget) source room
+
+-- the guess for a text, the encoding table's entries for its bytes, and the display name of a number's kind
+abbrev pub guess : String → Told
+guess text = kind (guessOf (bytesOf text))
+
+abbrev pub codes : AlphabetType → String → Told
+codes k text = bytes (map (coding k .code) (bytesOf text))
+
+abbrev pub name : ℕ → Told
+name number = bytes (displayName (kindOf number))
+
+-- what calls tell by number, of any alphabet number, position and length of the output memory
+abbrev pub names : ℕ → Told
+names number = tells (namedReply (namedAt number))
+
+abbrev pub range : ℕ → ℕ → ℕ → Told
+range start end bits = tells (rangeReply (rangeAt start end bits))
+
+abbrev pub encode : ℕ → String → ℕ → Told
+encode alphabet text room = tells (encodedReply (encodeAt alphabet (bytesOf text) room))
+
+abbrev pub read : ℕ → ℕ → ℕ → ℕ → ℕ → Told
+read alphabet offset start end room = tells (readReply (readAt alphabet offset start end room))
+
+abbrev pub cover : ℕ → List ℕ → ℕ → ℕ → ℕ → ℕ → Told
+cover alphabet lent offset start end room = tells (readReply (coveredAt alphabet lent offset start end room))
+
+abbrev pub start : ℕ → ℕ → ℕ → Told
+start alphabet skip budget = tells (streamStartedReply (startStreamAt alphabet skip budget))
+
+-- from states of any kind: `guess` of a mask; `update` and `finalize` of an encoder; the end call of a stream
+abbrev pub masked : ℕ → Told
+masked mask = tells (guessedReply (guessAt (record { acc = mask })))
+
+abbrev pub encoder : AlphabetType → ℕ → ℕ → ℕ → First → SequenceEncoder
+encoder k seen bits pending first = record { alphabet = k; seen = seen; bits = bits; pending = pending; first = first }
+
+abbrev pub update : SequenceEncoder → String → ℕ → Told
+update s piece room = tells (updatedReply (updateAt s (bytesOf piece) room))
+
+abbrev pub finalize : SequenceEncoder → ℕ → Told
+finalize s room = tells (finalizedReply (finalizeAt s room))
+
+abbrev pub end : AlphabetType → ℕ → ℕ → ℕ → ℕ → Told
+end k skip budget bits pending = tells (endedReply (endAt (record { alphabet = k; skip = skip; budget = budget; bits = bits; pending = pending })))
+
+-- ---- answers
+
+-- memory of nine bytes with these at its front, which are counted; and as it was, on a refusal
+abbrev pub writes : List ℕ → Told
+writes bs = leaves (accepted (length bs ∷ [])) (front bs (blank 9))
+
+abbrev pub refuses : ℕ → List ℕ → Told
+refuses number values = leaves (refused number values) (blank 9)
+
+-- a stream call: bytes taken, the bases written, the status by number (1 Hungry, 2 Done, 3 Full), the length of its memory; and what the end call tells
+abbrev pub moves : ℕ → String → ℕ → ℕ → Reply → Told
+moves taken text status room ended =
+    streams (accepted (taken ∷ length (bytesOf text) ∷ status ∷ [])) (front (bytesOf text) (blank room)) ended
+
+-- the values of an accepted call, and a refusal without values
+abbrev pub yes : List ℕ → Told
+yes values = tells (accepted values)
+
+abbrev pub no : ℕ → Told
+no number = tells (refused number [])
+
+-- ---- the list
 
 abbrev pub rows : List Row
 rows =
-    packs Dna2bit "ACGT" (0x9c ∷ [])
-    ∷ packs Dna2bit "TCAG" (0x1b ∷ [])
-    ∷ packs Dna3bit "ACGTNRYU" (0x05 ∷ 0x39 ∷ 0x77 ∷ [])
-    ∷ packs DnaIupac "NACM" (0x01 ∷ 0x23 ∷ [])
-    ∷ packs Protein "MK*" (0x52 ∷ 0x28 ∷ [])
-    ∷ refuses Dna2bit "ACNT" 2 0x4e
-    ∷ guess "" Dna2bit
-    ∷ guess "ACGU" Dna3bit
-    ∷ guess "ACGTS" DnaIupac
-    ∷ guess "ACGX" Protein
-    ∷ guess "acgt" Ascii
-    ∷ reads Dna3bit (0x05 ∷ 0x39 ∷ 0x77 ∷ []) 2 6 "GTNR"
-    ∷ range 2 6 3 0 3
-    ∷ range 5 5 2 1 2
-    ∷ reads Dna2bit (0x9c ∷ []) 0 6 "ACGTTT"
-    ∷ uncovered Dna2bit (0x9c ∷ []) 0 6
-    ∷ reads Protein (0xe8 ∷ []) 0 1 "X"
-    ∷ starves Dna3bit 6 4 (0x05 ∷ []) 1 0 1 4
-    ∷ codes Dna2bit "ACGTN" (2 ∷ 1 ∷ 3 ∷ 0 ∷ 0xff ∷ [])
-    ∷ codes Dna3bit "TNRYUX" (3 ∷ 4 ∷ 5 ∷ 6 ∷ 7 ∷ 0xff ∷ [])
-    ∷ codes DnaIupac "NACMVn" (0 ∷ 1 ∷ 2 ∷ 3 ∷ 15 ∷ 0xff ∷ [])
-    ∷ codes Protein "AMK*J?" (0 ∷ 10 ∷ 8 ∷ 20 ∷ 28 ∷ 0xff ∷ [])
-    ∷ codes Ascii "Az~" (0x41 ∷ 0x7a ∷ 0x7e ∷ [])
-    ∷ codes Unknown "Az~" (0x41 ∷ 0x7a ∷ 0x7e ∷ [])
+    -- the starred rows
+    packs Dna2bit "ACGT" gives writes (0x9c ∷ [])
+    ∷ packs Dna2bit "TCAG" gives writes (0x1b ∷ [])
+    ∷ packs Dna3bit "ACGTNRYU" gives writes (0x05 ∷ 0x39 ∷ 0x77 ∷ [])
+    ∷ packs DnaIupac "NACM" gives writes (0x01 ∷ 0x23 ∷ [])
+    ∷ packs Protein "MK*" gives writes (0x52 ∷ 0x28 ∷ [])
+    ∷ packs Dna2bit "ACNT" gives refuses 5 (2 ∷ 0x4e ∷ [])
+    ∷ guess "" gives kind Dna2bit
+    ∷ guess "ACGU" gives kind Dna3bit
+    ∷ guess "ACGTS" gives kind DnaIupac
+    ∷ guess "ACGX" gives kind Protein
+    ∷ guess "acgt" gives kind Ascii
+    ∷ reads Dna3bit (0x05 ∷ 0x39 ∷ 0x77 ∷ []) 2 6 gives writes (bytesOf "GTNR")
+    ∷ range 2 6 3 gives yes (0 ∷ 3 ∷ [])
+    ∷ range 5 5 2 gives yes (1 ∷ 2 ∷ [])
+    ∷ reads Dna2bit (0x9c ∷ []) 0 6 gives writes (bytesOf "ACGTTT")
+    ∷ covers Dna2bit (0x9c ∷ []) 0 6 gives refuses 3 []
+    ∷ reads Protein (0xe8 ∷ []) 0 1 gives writes (bytesOf "X")
+    ∷ stream Dna3bit 6 4 (0x05 ∷ []) 4 gives moves 1 "" 1 4 (refused 7 (4 ∷ []))
+    -- a row of codes for each alphabet
+    ∷ codes Dna2bit "ACGTN" gives bytes (2 ∷ 1 ∷ 3 ∷ 0 ∷ 0xff ∷ [])
+    ∷ codes Dna3bit "TNRYUX" gives bytes (3 ∷ 4 ∷ 5 ∷ 6 ∷ 7 ∷ 0xff ∷ [])
+    ∷ codes DnaIupac "NACMVn" gives bytes (0 ∷ 1 ∷ 2 ∷ 3 ∷ 15 ∷ 0xff ∷ [])
+    ∷ codes Protein "AMK*J?" gives bytes (0 ∷ 10 ∷ 8 ∷ 20 ∷ 28 ∷ 0xff ∷ [])
+    ∷ codes Ascii "Az~" gives bytes (0x41 ∷ 0x7a ∷ 0x7e ∷ [])
+    ∷ codes Unknown "Az~" gives bytes (0x41 ∷ 0x7a ∷ 0x7e ∷ [])
+    -- numbers 0 to 5 and the six names; 6 names none
+    ∷ name 0 gives bytes (bytesOf "dna2bit")
+    ∷ name 1 gives bytes (bytesOf "dna3bit")
+    ∷ name 2 gives bytes (bytesOf "dnaio")
+    ∷ name 3 gives bytes (bytesOf "protein")
+    ∷ name 4 gives bytes (bytesOf "ASCII")
+    ∷ name 5 gives bytes (bytesOf "Unknown")
+    ∷ names 5 gives yes (5 ∷ [])
+    ∷ names 6 gives no 8
+    -- each status: Done before Full, also where the memory is full; Full with source left; Hungry with source used up; Hungry while the skip is due, also for a
+    -- budget of 0 and without memory, and then Done
+    ∷ stream Dna2bit 0 4 (0x9c ∷ []) 4 gives moves 1 "ACGT" 2 4 (accepted [])
+    ∷ stream Dna2bit 0 8 (0x9c ∷ 0x1b ∷ []) 4 gives moves 1 "ACGT" 3 4 (refused 7 (4 ∷ []))
+    ∷ stream Dna2bit 0 8 (0x9c ∷ []) 5 gives moves 1 "ACGT" 1 5 (refused 7 (4 ∷ []))
+    ∷ stream Dna2bit 3 0 [] 0 gives moves 0 "" 1 0 (refused 7 (0 ∷ []))
+    ∷ stream Dna2bit 3 0 (0x9c ∷ []) 0 gives moves 1 "" 2 0 (accepted [])
+    -- positions up to 2^60
+    ∷ range 1152921504606846976 1152921504606846976 8 gives yes (1152921504606846976 ∷ 1152921504606846976 ∷ [])
+    ∷ range 1152921504606846977 0 8 gives no 2
+    ∷ range 0 1152921504606846977 8 gives no 2
+    ∷ read 0 0 0 1152921504606846976 0 gives no 4
+    ∷ read 0 0 0 1152921504606846977 0 gives no 2
+    ∷ read 0 1152921504606846976 0 1 1 gives yes (1 ∷ [])
+    ∷ read 0 1152921504606846977 0 1 1 gives no 2
+    ∷ update (encoder Ascii 1152921504606846975 0 0 First.Nothing) "A" 1 gives yes (1 ∷ [])
+    ∷ update (encoder Ascii 1152921504606846976 0 0 First.Nothing) "A" 1 gives no 2
+    -- `byte_range_for_bases`: bits at most 8; 9 before 2
+    ∷ range 0 1 9 gives no 9
+    ∷ range 1152921504606846977 0 9 gives no 9
+    -- `encode_sequence`: 8 before 4, 4 before 5
+    ∷ encode 6 "A" 0 gives no 8
+    ∷ encode 0 "ACNT" 0 gives no 4
+    -- the zero-filling read: empty before 8, 8 before 2, 8 before 4
+    ∷ read 6 1152921504606846977 1 1 0 gives yes (0 ∷ [])
+    ∷ read 6 0 0 1152921504606846977 9 gives no 8
+    ∷ read 6 0 0 1 0 gives no 8
+    -- the covered read: empty before 8, 8 before 2, 3 and 4, 2 before 3 and 4, 3 before 4; a range that begins before byte_offset
+    ∷ cover 6 [] 1152921504606846977 1 1 0 gives yes (0 ∷ [])
+    ∷ cover 6 [] 1152921504606846977 0 1 9 gives no 8
+    ∷ cover 6 [] 0 0 1 9 gives no 8
+    ∷ cover 6 (0x9c ∷ []) 0 0 1 0 gives no 8
+    ∷ cover 0 [] 1152921504606846977 0 1 9 gives no 2
+    ∷ cover 0 [] 0 0 1152921504606846977 0 gives no 2
+    ∷ cover 0 [] 0 0 1 0 gives no 3
+    ∷ cover 0 (0x9c ∷ []) 0 0 4 3 gives no 4
+    ∷ cover 0 (0x80 ∷ []) 1 2 5 9 gives no 3
+    -- starting a stream: a skip below 8; 8 before 6
+    ∷ start 0 7 0 gives yes []
+    ∷ start 0 8 0 gives no 6
+    ∷ start 6 8 0 gives no 8
+    -- the guesser's state: a mask of 16 to 31
+    ∷ masked 15 gives no 1
+    ∷ masked 16 gives yes (4 ∷ [])
+    ∷ masked 31 gives yes (0 ∷ [])
+    ∷ masked 32 gives no 1
+    -- the encoder's state: symbols seen, pending bit count, pending value; a first non-member that is a member, stands at `seen`, or stands below it
+    ∷ update (encoder Ascii 1152921504606846977 0 0 First.Nothing) "" 0 gives no 1
+    ∷ update (encoder Dna2bit 1 0 0 First.Nothing) "" 0 gives no 1
+    ∷ update (encoder Dna2bit 1 2 4 First.Nothing) "" 0 gives no 1
+    ∷ update (encoder Dna2bit 1 2 3 First.Nothing) "" 0 gives yes (0 ∷ [])
+    ∷ finalize (encoder Dna2bit 1 2 3 (First.At 0 0x41)) 1 gives no 1
+    ∷ finalize (encoder Dna2bit 1 2 3 (First.At 1 0x4e)) 1 gives no 1
+    ∷ finalize (encoder Dna2bit 1 2 3 (First.At 0 0x4e)) 1 gives tells (refused 5 (0 ∷ 0x4e ∷ []))
+    -- `update`: 1 before 2 and 4, 2 before 4
+    ∷ update (encoder Ascii 1152921504606846976 1 0 First.Nothing) "A" 1 gives no 1
+    ∷ update (encoder Dna2bit 1 0 0 First.Nothing) "ACGT" 0 gives no 1
+    ∷ update (encoder Ascii 1152921504606846976 0 0 First.Nothing) "A" 0 gives no 2
+    -- `finalize`: 1 before 5 (above) and 4, 5 before 4
+    ∷ finalize (encoder Dna2bit 1 2 4 First.Nothing) 0 gives no 1
+    ∷ finalize (encoder Dna2bit 1 2 3 First.Nothing) 0 gives no 4
+    ∷ finalize (encoder Dna2bit 1 2 3 (First.At 0 0x4e)) 0 gives tells (refused 5 (0 ∷ 0x4e ∷ []))
+    -- the stream's state: skip, pending bit count, pending value, nothing pending while the skip is due; 1 before 7
+    ∷ end Dna2bit 0 0 7 127 gives yes []
+    ∷ end Dna2bit 0 0 7 128 gives no 1
+    ∷ end Dna2bit 0 0 8 0 gives no 1
+    ∷ end Dna2bit 8 0 0 0 gives no 1
+    ∷ end Dna2bit 1 0 1 0 gives no 1
+    ∷ end Dna2bit 0 4 8 0 gives no 1
     ∷ []

@@ -1,12 +1,11 @@
 -- Texts and the bytes that pack them. States the words of demand 3's sentences on an accepted `finalize` and on equal packed bytes.
-use Prim.Native.Nat.{ℕ, _*_, _≤_, _<_}
+use Prim.Native.Nat.{ℕ, _*_, _^_, _≤_, _<_}
 use mathlib.Core.Path.{_≡_}
 use mathlib.Core.Bool.{true}
 use mathlib.Core.List.{List, _++_, map}
 use lib.ListN.{length}
 use Rattle.bits.specs.Tables.{at}
 use Rattle.bits.specs.Packing.{bytesFor}
-use Rattle.alphabet.specs.Questions.{limit}
 use Rattle.alphabet.specs.Symbols.{Coding}
 use Rattle.alphabet.specs.Names.{known, numbered}
 use Rattle.packing.specs.Encode.{packing}
@@ -26,7 +25,7 @@ pub record Packed (alphabet : ℕ) (text packed : List ℕ) : Type 0 where
   pub has-alphabet : known alphabet ≡ true
   -- n members of one alphabet, n at most 2^60
   pub members : Members (numbered alphabet) text
-  pub bounded : length text ≤ limit
+  pub bounded : length text ≤ 2 ^ 60
   -- ceil(n · b / 8) bytes, and these
   pub counted : length packed ≡ bytesFor (length text * numbered alphabet .width)
   pub packs : packed ≡ packing (numbered alphabet) text
