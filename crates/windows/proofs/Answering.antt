@@ -22,7 +22,7 @@ use Rattle.alphabet.specs.declared.kind.Named.{Named}
 use Rattle.alphabet.specs.declared.refusal.Refusal.{Refusal}
 use Rattle.windows.specs.declared.read.Read.{Read}
 use Rattle.windows.specs.Window.{window, covers, readAt, coveredAt, readWrites}
-use Rattle.windows.specs.Workers.{Fits}
+use Rattle.windows.specs.Workers.{Fits, Passed}
 use Rattle.windows.proofs.Windows.{window-bases}
 
 -- ---- an answer with bases passed every question
@@ -41,9 +41,9 @@ last : (start end room n : ℕ) → ltb start end ≡ true → inBounds end ≡ 
 last start end room n some near space count =
     record { near = omega (arith, ltb-true start end some, leb-true end (2 ^ 60) near); space = omega (arith, leb-true (end - start) room space) }
 
-pub accepted : (alphabet offset start end room : ℕ) (r : Read) (n : ℕ) → r ≡ readAt alphabet offset start end room → r ≡ Read.Bases n → (n ≡ 0 → ⊥) → Fits start n 0 room
+pub accepted : (alphabet offset start end room : ℕ) (r : Read) → r ≡ readAt alphabet offset start end room → Passed r start room
 unfolding readAt
-accepted alphabet offset start end room r n e told z =
+accepted alphabet offset start end room r e n told z =
     let h : 0 < n = omega arith in
     let p₁ = passed (ltb start end) _ _ n refl h (sym (ap counted e) ∙ ap counted told) in
     let p₂ = passed (known alphabet) _ _ n refl h (p₁ .1) in
@@ -51,9 +51,9 @@ accepted alphabet offset start end room r n e told z =
     let p₄ = passed (leb (end - start) room) _ _ n refl h (p₃ .1) in
     last start end room n (p₁ .0) (both-true (inBounds end) (inBounds offset) (p₃ .0) .0) (p₄ .0) (p₄ .1)
 
-pub covered-accepted : (alphabet : ℕ) (lent : List ℕ) (offset start end room : ℕ) (r : Read) (n : ℕ) → r ≡ coveredAt alphabet lent offset start end room → r ≡ Read.Bases n → (n ≡ 0 → ⊥) → Fits start n 0 room
+pub covered-accepted : (alphabet : ℕ) (lent : List ℕ) (offset start end room : ℕ) (r : Read) → r ≡ coveredAt alphabet lent offset start end room → Passed r start room
 unfolding coveredAt
-covered-accepted alphabet lent offset start end room r n e told z =
+covered-accepted alphabet lent offset start end room r e n told z =
     let h : 0 < n = omega arith in
     let p₁ = passed (ltb start end) _ _ n refl h (sym (ap counted e) ∙ ap counted told) in
     let p₂ = passed (known alphabet) _ _ n refl h (p₁ .1) in
@@ -64,38 +64,36 @@ covered-accepted alphabet lent offset start end room r n e told z =
 
 -- ---- memory afterwards
 
-module _ (alphabet : ℕ) (lent : List ℕ) (offset start : ℕ) (memory : List ℕ) (answer : Read) where
-  abbrev pub After : List ℕ → Type 0
-  After out = out ≡ front (readWrites alphabet lent offset start answer) memory
+module _ (alphabet : ℕ) (lent : List ℕ) (offset start : ℕ) (memory : List ℕ) where
+  -- what an answer leaves
+  abbrev pub After : Read → List ℕ → Type 0
+  After answer out = out ≡ front (readWrites alphabet lent offset start answer) memory
 
-  pub bases-after : (n : ℕ) (out : List ℕ) → Read.Bases n ≡ answer → out ≡ putAt 0 (window (numbered alphabet) lent offset start n) memory → After out
+  same-after : (r answer : Read) (out : List ℕ) → r ≡ answer → After r out → After answer out
+  same-after r answer out e w = w ∙ ap (λ (x : Read). front (readWrites alphabet lent offset start x) memory) e
+
+  pub refused-after : (answer : Read) (q : Refusal) → answer ≡ Read.Refused q → After answer memory
   unfolding readWrites
-  bases-after n out e w =
-      w ∙ put-front (window (numbered alphabet) lent offset start n) memory ∙ ap (λ (r : Read). front (readWrites alphabet lent offset start r) memory) e
+  refused-after answer q told = same-after (Read.Refused q) answer memory (sym told) refl
 
-  pub none-after : Read.Bases 0 ≡ answer → After memory
+  pub empty-after : (answer : Read) (n : ℕ) → answer ≡ Read.Bases n → n ≡ 0 → After answer memory
   unfolding readWrites tabulate
-  none-after e =
-      ap (λ (l : List ℕ). front l memory) (sym (window-bases (numbered alphabet) lent offset start 0))
-      ∙ ap (λ (r : Read). front (readWrites alphabet lent offset start r) memory) e
+  empty-after answer n told z =
+      same-after (Read.Bases 0) answer memory (ap Read.Bases (sym z) ∙ sym told)
+      (ap (λ (l : List ℕ). front l memory) (sym (window-bases (numbered alphabet) lent offset start 0)))
 
-  pub refused-after : (q : Refusal) → Read.Refused q ≡ answer → After memory
+  pub bases-after : (answer : Read) (kind : AlphabetType) (n : ℕ) (out : List ℕ) → answer ≡ Read.Bases n → kind ≡ kindOf alphabet
+      → out ≡ putAt 0 (window (coding kind) lent offset start n) memory → After answer out
   unfolding readWrites
-  refused-after q e = ap (λ (r : Read). front (readWrites alphabet lent offset start r) memory) e
+  bases-after answer kind n out told k w =
+      same-after (Read.Bases n) answer out (sym told)
+      (w
+      ∙ ap (λ (x : AlphabetType). putAt 0 (window (coding x) lent offset start n) memory) k
+      ∙ put-front (window (numbered alphabet) lent offset start n) memory)
 
-  -- the whole of a call, by what its questions answered
-  module _ (r : Read) (e : r ≡ answer) where
-    pub empty-call : (n : ℕ) → r ≡ Read.Bases n → n ≡ 0 → (Read.Bases 0 ≡ answer) × After memory
-    empty-call n told z =
-        let a : Read.Bases 0 ≡ answer = ap Read.Bases (sym z) ∙ sym told ∙ e in
-        (a, none-after a)
-
-    pub read-call : (kind : AlphabetType) (n : ℕ) (out : List ℕ) → r ≡ Read.Bases n → kind ≡ kindOf alphabet → out ≡ putAt 0 (window (coding kind) lent offset start n) memory → (Read.Bases n ≡ answer) × After out
-    read-call kind n out told k w =
-        (sym told ∙ e, bases-after n out (sym told ∙ e) (w ∙ ap (λ (x : AlphabetType). putAt 0 (window (coding x) lent offset start n) memory) k))
-
-    pub refused-call : (q : Refusal) → r ≡ Read.Refused q → (Read.Refused q ≡ answer) × After memory
-    refused-call q told = (sym told ∙ e, refused-after q (sym told ∙ e))
+  -- a call that hands on what its questions answered
+  pub handed-on : (r asked answer : Read) (out : List ℕ) → r ≡ asked → asked ≡ answer → After asked out → (r ≡ answer) × After answer out
+  handed-on r asked answer out same e w = (same ∙ e, same-after asked answer out e w)
 
 -- ---- question 6
 

@@ -1,8 +1,8 @@
 use borrow.Author.Needs.{needs}
 use Rattle.alphabet.specs.declared.kind.AlphabetType.the-variants.{Dna2bit, Dna3bit}
 use Rattle.windows.proofs.WholeBytes.{of-kind}
-use Rattle.windows.proofs.read.written.Statement.{statement}
-use Rattle.windows.proofs.read.written.Tie as tie
+use Rattle.windows.proofs.read.own.Statement.{statement}
+use Rattle.windows.proofs.read.own.Tie as tie
 
 enum-told : tie.Need-enum-told
 enum-told c = search needs
@@ -45,8 +45,8 @@ same-length-3 c = search needs
 returns-3 : tie.Need-returns-3
 returns-3 c = search needs
 
-pub written-spec : {M : Type 1} → statement M
-written-spec =
+pub own-spec : {M : Type 1} → statement M
+own-spec =
     tie.close
     (tie.spec
     enum-told
