@@ -5,9 +5,9 @@ use mathlib.Core.List.{List, []}
 use Prim.Native.Nat.{ℕ, _+_, _-_, _^_, _≤_, _<_}
 use native.Mathlib.Nat.{mul-le-mul-right}
 use native.Mathlib.Omega.{arith}
-use borrow.Author.Tests.{ltb-true, leb-true, leb-false, lt-ltb, le-ltb, le-leb, lt-leb}
+use borrow.Author.Tests.{ltb-true, leb-true, lt-ltb, le-ltb, le-leb, lt-leb}
 use lib.Dec.{leb, ltb}
-use lib.ListN.{length, getD, List·getD-eq-default}
+use lib.ListN.{length}
 use Rattle.bits.specs.Tables.{tabulate}
 use Rattle.bits.specs.Packing.{firstByte, endByte}
 use Rattle.bits.specs.Memory.{front, putAt}
@@ -15,10 +15,8 @@ use Rattle.bits.proofs.Computed.{both-true}
 use Rattle.bits.proofs.Put.{put-front}
 use Rattle.alphabet.specs.Questions.{ask_else_then_, by, inBounds}
 use Rattle.alphabet.specs.Symbols.{Coding, coding}
-use Rattle.alphabet.specs.Names.{known, kinds, kindOf, numbered, namedAt}
+use Rattle.alphabet.specs.Names.{known, kindOf, numbered}
 use Rattle.alphabet.specs.declared.kind.AlphabetType.{AlphabetType}
-use Rattle.alphabet.specs.declared.kind.AlphabetType.the-variants.{Unknown}
-use Rattle.alphabet.specs.declared.kind.Named.{Named}
 use Rattle.alphabet.specs.declared.refusal.Refusal.{Refusal}
 use Rattle.windows.specs.declared.read.Read.{Read}
 use Rattle.windows.specs.Window.{window, covers, readAt, coveredAt, readWrites}
@@ -98,7 +96,8 @@ module _ (alphabet : ℕ) (lent : List ℕ) (offset start : ℕ) (memory : List 
 -- ---- question 6
 
 -- the byte range is lent: it begins no earlier and ends no later than the lent bytes
-pub covered-yes : (A : Coding) (lent : List ℕ) (offset start end : ℕ) → offset ≤ firstByte (A .width) start → endByte (A .width) end - offset ≤ length lent → covers A lent offset start end ≡ true
+pub covered-yes : (A : Coding) (lent : List ℕ) (offset start end : ℕ)
+    → offset ≤ firstByte (A .width) start → endByte (A .width) end - offset ≤ length lent → covers A lent offset start end ≡ true
 unfolding covers
 covered-yes A lent offset start end l h = rw (le-leb offset (firstByte (A .width) start) l, le-leb (endByte (A .width) end) (offset + length lent) (omega arith))
 
@@ -106,33 +105,14 @@ pub covered-early : (A : Coding) (lent : List ℕ) (offset start end : ℕ) → 
 unfolding covers
 covered-early A lent offset start end l = rw (lt-leb offset (firstByte (A .width) start) l)
 
-pub covered-late : (A : Coding) (lent : List ℕ) (offset start end : ℕ) → offset ≤ firstByte (A .width) start → length lent < endByte (A .width) end - offset → covers A lent offset start end ≡ false
+pub covered-late : (A : Coding) (lent : List ℕ) (offset start end : ℕ)
+    → offset ≤ firstByte (A .width) start → length lent < endByte (A .width) end - offset → covers A lent offset start end ≡ false
 unfolding covers
 covered-late A lent offset start end l h = rw (le-leb offset (firstByte (A .width) start) l, lt-leb (endByte (A .width) end) (offset + length lent) (omega arith))
 
 -- a range's first byte stands no later than its end
 pub range-order : (b start end : ℕ) → start < end → firstByte b start ≤ endByte b end
 range-order b start end h = omega (arith, mul-le-mul-right {m = start} {n = end} b (omega arith))
-
--- ---- the kind of a number
-
-pub kind-named : (r : Named) (alphabet : ℕ) (kind : AlphabetType) → r ≡ namedAt alphabet → r ≡ Named.Kind kind → kind ≡ kindOf alphabet
-unfolding namedAt
-kind-named r alphabet kind e q = go (known alphabet) (sym q ∙ e)
-  where
-    go : (t : Bool) → Named.Kind kind ≡ (ask t else Named.Refused (by 8 []) then Named.Kind (kindOf alphabet)) → kind ≡ kindOf alphabet
-    go true p = cc
-    go false p = let z : _≡_ {A = ℕ} 0 1 = cc in absurd (omega arith)
-
-pub kind-unnamed : (r : Named) (alphabet : ℕ) (q : Refusal) → r ≡ namedAt alphabet → r ≡ Named.Refused q → Unknown ≡ kindOf alphabet
-unfolding namedAt kindOf
-kind-unnamed r alphabet q e p = go (known alphabet) refl (sym p ∙ e)
-  where
-    go : (t : Bool) → known alphabet ≡ t → Named.Refused q ≡ (ask t else Named.Refused (by 8 []) then Named.Kind (kindOf alphabet)) → Unknown ≡ getD kinds alphabet Unknown
-    go true k w = let z : _≡_ {A = ℕ} 0 1 = cc in absurd (omega arith)
-    go false k w =
-        let past : 6 ≤ alphabet = omega (arith, leb-false alphabet 5 k) in
-        sym (List·getD-eq-default kinds Unknown past)
 
 -- ---- each answer of a zero-filling read
 
@@ -167,15 +147,15 @@ module _ (alphabet offset start end room : ℕ) where
 
 -- ---- each answer of a covered read, by that of a zero-filling one with memory enough
 
-module _ (alphabet : ℕ) (lent : List ℕ) (offset start end room : ℕ) (r : Read) (e : r ≡ readAt alphabet offset start end end) where
-  -- what is asked of both, with what follows on "yes"
-  abbrev asking : Read → Read
-  asking rest =
-      ask ltb start end else Read.Bases 0 then
-      ask known alphabet else Read.Refused (by 8 []) then
-      ask inBounds end && inBounds offset else Read.Refused (by 2 []) then
-      rest
+-- what is asked of both, by the three answers, with what follows on "yes"
+abbrev asking : Bool → Bool → Bool → Read → Read
+asking some named near rest =
+    ask some else Read.Bases 0 then
+    ask named else Read.Refused (by 8 []) then
+    ask near else Read.Refused (by 2 []) then
+    rest
 
+module _ (alphabet : ℕ) (lent : List ℕ) (offset start end room : ℕ) (r : Read) (e : r ≡ readAt alphabet offset start end end) where
   -- what a covered read asks besides
   abbrev besides : Read
   besides =
@@ -183,7 +163,7 @@ module _ (alphabet : ℕ) (lent : List ℕ) (offset start end room : ℕ) (r : R
       ask leb (end - start) room else Read.Refused (by 4 []) then
       Read.Bases (end - start)
 
-  plain : r ≡ asking (Read.Bases (end - start))
+  plain : r ≡ asking (ltb start end) (known alphabet) (inBounds end && inBounds offset) (Read.Bases (end - start))
   unfolding readAt
   plain = e ∙ rw (le-leb (end - start) end (omega arith))
 
@@ -192,7 +172,7 @@ module _ (alphabet : ℕ) (lent : List ℕ) (offset start end room : ℕ) (r : R
   unfolding coveredAt
   covered-refused q told = told ∙ go (ltb start end) (known alphabet) (inBounds end && inBounds offset) (sym told ∙ plain)
     where
-      go : (t u v : Bool) → Read.Refused q ≡ (ask t else Read.Bases 0 then ask u else Read.Refused (by 8 []) then ask v else Read.Refused (by 2 []) then Read.Bases (end - start)) → Read.Refused q ≡ (ask t else Read.Bases 0 then ask u else Read.Refused (by 8 []) then ask v else Read.Refused (by 2 []) then besides)
+      go : (t u v : Bool) → Read.Refused q ≡ asking t u v (Read.Bases (end - start)) → Read.Refused q ≡ asking t u v besides
       go true true true p = let z : _≡_ {A = ℕ} 0 1 = cc in absurd (omega arith)
       go true true false p = p
       go true false v p = p
@@ -203,7 +183,7 @@ module _ (alphabet : ℕ) (lent : List ℕ) (offset start end room : ℕ) (r : R
   unfolding coveredAt
   covered-empty n told z = go (ltb start end) (known alphabet) (inBounds end && inBounds offset) (ltb-true start end) (sym told ∙ plain)
     where
-      go : (t u v : Bool) → (t ≡ true → start < end) → Read.Bases n ≡ (ask t else Read.Bases 0 then ask u else Read.Refused (by 8 []) then ask v else Read.Refused (by 2 []) then Read.Bases (end - start)) → Read.Bases n ≡ (ask t else Read.Bases 0 then ask u else Read.Refused (by 8 []) then ask v else Read.Refused (by 2 []) then besides)
+      go : (t u v : Bool) → (t ≡ true → start < end) → Read.Bases n ≡ asking t u v (Read.Bases (end - start)) → Read.Bases n ≡ asking t u v besides
       go true true true some p = absurd (omega (arith, some refl, ap counted p))
       go true true false some p = let x : _≡_ {A = ℕ} 0 1 = cc in absurd (omega arith)
       go true false v some p = let x : _≡_ {A = ℕ} 0 1 = cc in absurd (omega arith)
