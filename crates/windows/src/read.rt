@@ -14,7 +14,7 @@ ghost use lib.ListN.{length};
 ghost use Rattle.bits.specs.Memory.{front, putAt};
 ghost use Rattle.alphabet.specs.Symbols.{coding};
 ghost use Rattle.windows.specs.Window.{window, readAt, readWrites, readMemory, coveredAt, coveredMemory};
-ghost use Rattle.windows.specs.Workers.{Fits, Passed};
+ghost use Rattle.windows.specs.Workers.{Fits, Passed, served, Serves};
 
 // What every read of a window answers: the bases written.
 pub enum Read {
@@ -22,9 +22,11 @@ pub enum Read {
     Refused(Refusal),
 }
 
-// Which engine writes: the alphabet's own, or the rolling one, which takes any.
+// Which engine writes: an alphabet's own, the rows of Dna2bit, the blocks of Dna3bit, or the rolling one, which takes any alphabet.
 enum Engine {
     Own,
+    Rows,
+    Blocks,
     Any,
 }
 
@@ -60,6 +62,28 @@ fn own(kind: AlphabetType, bytes: &[u8], offset: usize, start: usize, count: usi
     }
 }
 
+// The same by an engine. Those of one alphabet are called here and above, so that they stay functions of their own, and this one is laid into each read.
+fn written(
+    engine: Engine,
+    kind: AlphabetType,
+    bytes: &[u8],
+    offset: usize,
+    start: usize,
+    count: usize,
+    out: &mut [u8],
+)
+    requires { ⌜ Fits start count 0 (length (now out)) ⌝ }
+    ensures { λ _. ⌜ now (out .exit)
+        ≡ putAt 0 (window (coding (served engine kind)) (now (bytes .entry)) offset start count) (now (out .entry)) ⌝ }
+{
+    match engine {
+        Engine::Own => own(kind, bytes, offset, start, count, out),
+        Engine::Rows => two_bits(bytes, offset, start, count, out),
+        Engine::Blocks => three_bits(bytes, offset, start, count, out),
+        Engine::Any => rolled(kind, bytes, offset, start, count, out),
+    }
+}
+
 // The second half of every read: what its questions answered, after the bases of an accepted window are written.
 fn answered(
     answer: Read,
@@ -70,7 +94,7 @@ fn answered(
     start: usize,
     out: &mut [u8],
 ) -> Read
-    requires { ⌜ Passed answer start (length (now out)) ⌝ }
+    requires { ⌜ Passed answer start (length (now out)) × Serves engine alphabet ⌝ }
     ensures { λ r. ⌜ r ≡ answer ⌝ }
     ensures { λ _. ⌜ now (out .exit) ≡ front (readWrites alphabet (now (bytes .entry)) offset start answer) (now (out .entry)) ⌝ }
 {
@@ -80,11 +104,7 @@ fn answered(
     if count == 0 {
         return answer;
     }
-    let kind = kind_of(alphabet);
-    match engine {
-        Engine::Own => own(kind, bytes, offset, start, count, out),
-        Engine::Any => rolled(kind, bytes, offset, start, count, out),
-    }
+    written(engine, kind_of(alphabet), bytes, offset, start, count, out);
     answer
 }
 
@@ -98,6 +118,7 @@ fn zero_filling(
     end: usize,
     out: &mut [u8],
 ) -> Read
+    requires { ⌜ Serves engine alphabet ⌝ }
     ensures { λ r. ⌜ r ≡ readAt alphabet offset start end (length (now (out .entry))) ⌝ }
     ensures { λ _. ⌜ now (out .exit) ≡ readMemory alphabet (now (bytes .entry)) offset start end (now (out .entry)) ⌝ }
 {
@@ -169,7 +190,7 @@ pub fn decode_2bit(
     ensures { λ r. ⌜ r ≡ readAt 0 «byte_offset» start end (length (now (out .entry))) ⌝ }
     ensures { λ _. ⌜ now (out .exit) ≡ readMemory 0 (now (bytes .entry)) «byte_offset» start end (now (out .entry)) ⌝ }
 {
-    zero_filling(Engine::Own, 0, bytes, byte_offset, start, end, out)
+    zero_filling(Engine::Rows, 0, bytes, byte_offset, start, end, out)
 }
 
 // The engine of Dna3bit: eight bases from three bytes.
@@ -183,7 +204,7 @@ pub fn decode_3bit(
     ensures { λ r. ⌜ r ≡ readAt 1 «byte_offset» start end (length (now (out .entry))) ⌝ }
     ensures { λ _. ⌜ now (out .exit) ≡ readMemory 1 (now (bytes .entry)) «byte_offset» start end (now (out .entry)) ⌝ }
 {
-    zero_filling(Engine::Own, 1, bytes, byte_offset, start, end, out)
+    zero_filling(Engine::Blocks, 1, bytes, byte_offset, start, end, out)
 }
 
 // The engine of any alphabet: the rolling accumulator.

@@ -1,3 +1,4 @@
+use mathlib.Core.Path.{refl}
 use borrow.Author.Needs.{needs}
 use lib.ListN.{length}
 use Rattle.windows.specs.Window.{coveredAt, coveredMemory}
@@ -12,7 +13,7 @@ answered-requires : tie.Need-answered-requires
 answered-requires c κs =
     let q = c .before in
     let a = q .before .before .before .args in
-    covered-accepted (a .alphabet) (a .bytes .now) (a .byte-offset) (a .start) (a .end) (length (a .out .now)) (q .asked-covered .result) (q .asked-covered .ensures)
+    (covered-accepted (a .alphabet) (a .bytes .now) (a .byte-offset) (a .start) (a .end) (length (a .out .now)) (q .asked-covered .result) (q .asked-covered .ensures), refl)
 
 same-length : tie.Need-same-length
 same-length c = search needs

@@ -11,8 +11,9 @@ asked-requires c κs = search needs
 answered-requires : tie.Need-answered-requires
 answered-requires c κs =
     let q = c .before in
-    let a = q .before .before .before .args in
-    accepted (a .alphabet) (a .offset) (a .start) (a .end) (length (a .out .now)) (q .asked .result) (q .asked .ensures)
+    let s = q .before .before .before in
+    let a = s .args in
+    (accepted (a .alphabet) (a .offset) (a .start) (a .end) (length (a .out .now)) (q .asked .result) (q .asked .ensures), s .pre)
 
 same-length : tie.Need-same-length
 same-length c = search needs
