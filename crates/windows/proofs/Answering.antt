@@ -5,9 +5,9 @@ use mathlib.Core.List.{List, []}
 use Prim.Native.Nat.{ℕ, _+_, _-_, _^_, _≤_, _<_}
 use native.Mathlib.Nat.{mul-le-mul-right}
 use native.Mathlib.Omega.{arith}
-use borrow.Author.Tests.{ltb-true, leb-true, leb-false, lt-ltb, le-ltb, le-leb, lt-leb}
+use borrow.Author.Tests.{ltb-true, leb-true, lt-ltb, le-ltb, le-leb, lt-leb}
 use lib.Dec.{leb, ltb}
-use lib.ListN.{length, getD, List·getD-eq-default}
+use lib.ListN.{length}
 use Rattle.bits.specs.Tables.{tabulate}
 use Rattle.bits.specs.Packing.{firstByte, endByte}
 use Rattle.bits.specs.Memory.{front, putAt}
@@ -15,14 +15,12 @@ use Rattle.bits.proofs.Computed.{both-true}
 use Rattle.bits.proofs.Put.{put-front}
 use Rattle.alphabet.specs.Questions.{ask_else_then_, by, inBounds}
 use Rattle.alphabet.specs.Symbols.{Coding, coding}
-use Rattle.alphabet.specs.Names.{known, kinds, kindOf, numbered, namedAt}
+use Rattle.alphabet.specs.Names.{known, kindOf, numbered}
 use Rattle.alphabet.specs.declared.kind.AlphabetType.{AlphabetType}
-use Rattle.alphabet.specs.declared.kind.AlphabetType.the-variants.{Unknown}
-use Rattle.alphabet.specs.declared.kind.Named.{Named}
 use Rattle.alphabet.specs.declared.refusal.Refusal.{Refusal}
 use Rattle.windows.specs.declared.read.Read.{Read}
 use Rattle.windows.specs.Window.{window, covers, readAt, coveredAt, readWrites}
-use Rattle.windows.specs.Workers.{Fits}
+use Rattle.windows.specs.Workers.{Fits, Passed}
 use Rattle.windows.proofs.Windows.{window-bases}
 
 -- ---- an answer with bases passed every question
@@ -41,9 +39,9 @@ last : (start end room n : ℕ) → ltb start end ≡ true → inBounds end ≡ 
 last start end room n some near space count =
     record { near = omega (arith, ltb-true start end some, leb-true end (2 ^ 60) near); space = omega (arith, leb-true (end - start) room space) }
 
-pub accepted : (alphabet offset start end room : ℕ) (r : Read) (n : ℕ) → r ≡ readAt alphabet offset start end room → r ≡ Read.Bases n → (n ≡ 0 → ⊥) → Fits start n 0 room
+pub accepted : (alphabet offset start end room : ℕ) (r : Read) → r ≡ readAt alphabet offset start end room → Passed r start room
 unfolding readAt
-accepted alphabet offset start end room r n e told z =
+accepted alphabet offset start end room r e n told z =
     let h : 0 < n = omega arith in
     let p₁ = passed (ltb start end) _ _ n refl h (sym (ap counted e) ∙ ap counted told) in
     let p₂ = passed (known alphabet) _ _ n refl h (p₁ .1) in
@@ -51,9 +49,9 @@ accepted alphabet offset start end room r n e told z =
     let p₄ = passed (leb (end - start) room) _ _ n refl h (p₃ .1) in
     last start end room n (p₁ .0) (both-true (inBounds end) (inBounds offset) (p₃ .0) .0) (p₄ .0) (p₄ .1)
 
-pub covered-accepted : (alphabet : ℕ) (lent : List ℕ) (offset start end room : ℕ) (r : Read) (n : ℕ) → r ≡ coveredAt alphabet lent offset start end room → r ≡ Read.Bases n → (n ≡ 0 → ⊥) → Fits start n 0 room
+pub covered-accepted : (alphabet : ℕ) (lent : List ℕ) (offset start end room : ℕ) (r : Read) → r ≡ coveredAt alphabet lent offset start end room → Passed r start room
 unfolding coveredAt
-covered-accepted alphabet lent offset start end room r n e told z =
+covered-accepted alphabet lent offset start end room r e n told z =
     let h : 0 < n = omega arith in
     let p₁ = passed (ltb start end) _ _ n refl h (sym (ap counted e) ∙ ap counted told) in
     let p₂ = passed (known alphabet) _ _ n refl h (p₁ .1) in
@@ -64,43 +62,42 @@ covered-accepted alphabet lent offset start end room r n e told z =
 
 -- ---- memory afterwards
 
-module _ (alphabet : ℕ) (lent : List ℕ) (offset start : ℕ) (memory : List ℕ) (answer : Read) where
-  abbrev pub After : List ℕ → Type 0
-  After out = out ≡ front (readWrites alphabet lent offset start answer) memory
+module _ (alphabet : ℕ) (lent : List ℕ) (offset start : ℕ) (memory : List ℕ) where
+  -- what an answer leaves
+  abbrev pub After : Read → List ℕ → Type 0
+  After answer out = out ≡ front (readWrites alphabet lent offset start answer) memory
 
-  pub bases-after : (n : ℕ) (out : List ℕ) → Read.Bases n ≡ answer → out ≡ putAt 0 (window (numbered alphabet) lent offset start n) memory → After out
+  same-after : (r answer : Read) (out : List ℕ) → r ≡ answer → After r out → After answer out
+  same-after r answer out e w = w ∙ ap (λ (x : Read). front (readWrites alphabet lent offset start x) memory) e
+
+  pub refused-after : (answer : Read) (q : Refusal) → answer ≡ Read.Refused q → After answer memory
   unfolding readWrites
-  bases-after n out e w =
-      w ∙ put-front (window (numbered alphabet) lent offset start n) memory ∙ ap (λ (r : Read). front (readWrites alphabet lent offset start r) memory) e
+  refused-after answer q told = same-after (Read.Refused q) answer memory (sym told) refl
 
-  pub none-after : Read.Bases 0 ≡ answer → After memory
+  pub empty-after : (answer : Read) (n : ℕ) → answer ≡ Read.Bases n → n ≡ 0 → After answer memory
   unfolding readWrites tabulate
-  none-after e =
-      ap (λ (l : List ℕ). front l memory) (sym (window-bases (numbered alphabet) lent offset start 0))
-      ∙ ap (λ (r : Read). front (readWrites alphabet lent offset start r) memory) e
+  empty-after answer n told z =
+      same-after (Read.Bases 0) answer memory (ap Read.Bases (sym z) ∙ sym told)
+      (ap (λ (l : List ℕ). front l memory) (sym (window-bases (numbered alphabet) lent offset start 0)))
 
-  pub refused-after : (q : Refusal) → Read.Refused q ≡ answer → After memory
+  pub bases-after : (answer : Read) (kind : AlphabetType) (n : ℕ) (out : List ℕ) → answer ≡ Read.Bases n → kind ≡ kindOf alphabet
+      → out ≡ putAt 0 (window (coding kind) lent offset start n) memory → After answer out
   unfolding readWrites
-  refused-after q e = ap (λ (r : Read). front (readWrites alphabet lent offset start r) memory) e
+  bases-after answer kind n out told k w =
+      same-after (Read.Bases n) answer out (sym told)
+      (w
+      ∙ ap (λ (x : AlphabetType). putAt 0 (window (coding x) lent offset start n) memory) k
+      ∙ put-front (window (numbered alphabet) lent offset start n) memory)
 
-  -- the whole of a call, by what its questions answered
-  module _ (r : Read) (e : r ≡ answer) where
-    pub empty-call : (n : ℕ) → r ≡ Read.Bases n → n ≡ 0 → (Read.Bases 0 ≡ answer) × After memory
-    empty-call n told z =
-        let a : Read.Bases 0 ≡ answer = ap Read.Bases (sym z) ∙ sym told ∙ e in
-        (a, none-after a)
-
-    pub read-call : (kind : AlphabetType) (n : ℕ) (out : List ℕ) → r ≡ Read.Bases n → kind ≡ kindOf alphabet → out ≡ putAt 0 (window (coding kind) lent offset start n) memory → (Read.Bases n ≡ answer) × After out
-    read-call kind n out told k w =
-        (sym told ∙ e, bases-after n out (sym told ∙ e) (w ∙ ap (λ (x : AlphabetType). putAt 0 (window (coding x) lent offset start n) memory) k))
-
-    pub refused-call : (q : Refusal) → r ≡ Read.Refused q → (Read.Refused q ≡ answer) × After memory
-    refused-call q told = (sym told ∙ e, refused-after q (sym told ∙ e))
+  -- a call that hands on what its questions answered
+  pub handed-on : (r asked answer : Read) (out : List ℕ) → r ≡ asked → asked ≡ answer → After asked out → (r ≡ answer) × After answer out
+  handed-on r asked answer out same e w = (same ∙ e, same-after asked answer out e w)
 
 -- ---- question 6
 
 -- the byte range is lent: it begins no earlier and ends no later than the lent bytes
-pub covered-yes : (A : Coding) (lent : List ℕ) (offset start end : ℕ) → offset ≤ firstByte (A .width) start → endByte (A .width) end - offset ≤ length lent → covers A lent offset start end ≡ true
+pub covered-yes : (A : Coding) (lent : List ℕ) (offset start end : ℕ)
+    → offset ≤ firstByte (A .width) start → endByte (A .width) end - offset ≤ length lent → covers A lent offset start end ≡ true
 unfolding covers
 covered-yes A lent offset start end l h = rw (le-leb offset (firstByte (A .width) start) l, le-leb (endByte (A .width) end) (offset + length lent) (omega arith))
 
@@ -108,33 +105,14 @@ pub covered-early : (A : Coding) (lent : List ℕ) (offset start end : ℕ) → 
 unfolding covers
 covered-early A lent offset start end l = rw (lt-leb offset (firstByte (A .width) start) l)
 
-pub covered-late : (A : Coding) (lent : List ℕ) (offset start end : ℕ) → offset ≤ firstByte (A .width) start → length lent < endByte (A .width) end - offset → covers A lent offset start end ≡ false
+pub covered-late : (A : Coding) (lent : List ℕ) (offset start end : ℕ)
+    → offset ≤ firstByte (A .width) start → length lent < endByte (A .width) end - offset → covers A lent offset start end ≡ false
 unfolding covers
 covered-late A lent offset start end l h = rw (le-leb offset (firstByte (A .width) start) l, lt-leb (endByte (A .width) end) (offset + length lent) (omega arith))
 
 -- a range's first byte stands no later than its end
 pub range-order : (b start end : ℕ) → start < end → firstByte b start ≤ endByte b end
 range-order b start end h = omega (arith, mul-le-mul-right {m = start} {n = end} b (omega arith))
-
--- ---- the kind of a number
-
-pub kind-named : (r : Named) (alphabet : ℕ) (kind : AlphabetType) → r ≡ namedAt alphabet → r ≡ Named.Kind kind → kind ≡ kindOf alphabet
-unfolding namedAt
-kind-named r alphabet kind e q = go (known alphabet) (sym q ∙ e)
-  where
-    go : (t : Bool) → Named.Kind kind ≡ (ask t else Named.Refused (by 8 []) then Named.Kind (kindOf alphabet)) → kind ≡ kindOf alphabet
-    go true p = cc
-    go false p = let z : _≡_ {A = ℕ} 0 1 = cc in absurd (omega arith)
-
-pub kind-unnamed : (r : Named) (alphabet : ℕ) (q : Refusal) → r ≡ namedAt alphabet → r ≡ Named.Refused q → Unknown ≡ kindOf alphabet
-unfolding namedAt kindOf
-kind-unnamed r alphabet q e p = go (known alphabet) refl (sym p ∙ e)
-  where
-    go : (t : Bool) → known alphabet ≡ t → Named.Refused q ≡ (ask t else Named.Refused (by 8 []) then Named.Kind (kindOf alphabet)) → Unknown ≡ getD kinds alphabet Unknown
-    go true k w = let z : _≡_ {A = ℕ} 0 1 = cc in absurd (omega arith)
-    go false k w =
-        let past : 6 ≤ alphabet = omega (arith, leb-false alphabet 5 k) in
-        sym (List·getD-eq-default kinds Unknown past)
 
 -- ---- each answer of a zero-filling read
 
@@ -169,15 +147,15 @@ module _ (alphabet offset start end room : ℕ) where
 
 -- ---- each answer of a covered read, by that of a zero-filling one with memory enough
 
-module _ (alphabet : ℕ) (lent : List ℕ) (offset start end room : ℕ) (r : Read) (e : r ≡ readAt alphabet offset start end end) where
-  -- what is asked of both, with what follows on "yes"
-  abbrev asking : Read → Read
-  asking rest =
-      ask ltb start end else Read.Bases 0 then
-      ask known alphabet else Read.Refused (by 8 []) then
-      ask inBounds end && inBounds offset else Read.Refused (by 2 []) then
-      rest
+-- what is asked of both, by the three answers, with what follows on "yes"
+abbrev asking : Bool → Bool → Bool → Read → Read
+asking some named near rest =
+    ask some else Read.Bases 0 then
+    ask named else Read.Refused (by 8 []) then
+    ask near else Read.Refused (by 2 []) then
+    rest
 
+module _ (alphabet : ℕ) (lent : List ℕ) (offset start end room : ℕ) (r : Read) (e : r ≡ readAt alphabet offset start end end) where
   -- what a covered read asks besides
   abbrev besides : Read
   besides =
@@ -185,7 +163,7 @@ module _ (alphabet : ℕ) (lent : List ℕ) (offset start end room : ℕ) (r : R
       ask leb (end - start) room else Read.Refused (by 4 []) then
       Read.Bases (end - start)
 
-  plain : r ≡ asking (Read.Bases (end - start))
+  plain : r ≡ asking (ltb start end) (known alphabet) (inBounds end && inBounds offset) (Read.Bases (end - start))
   unfolding readAt
   plain = e ∙ rw (le-leb (end - start) end (omega arith))
 
@@ -194,7 +172,7 @@ module _ (alphabet : ℕ) (lent : List ℕ) (offset start end room : ℕ) (r : R
   unfolding coveredAt
   covered-refused q told = told ∙ go (ltb start end) (known alphabet) (inBounds end && inBounds offset) (sym told ∙ plain)
     where
-      go : (t u v : Bool) → Read.Refused q ≡ (ask t else Read.Bases 0 then ask u else Read.Refused (by 8 []) then ask v else Read.Refused (by 2 []) then Read.Bases (end - start)) → Read.Refused q ≡ (ask t else Read.Bases 0 then ask u else Read.Refused (by 8 []) then ask v else Read.Refused (by 2 []) then besides)
+      go : (t u v : Bool) → Read.Refused q ≡ asking t u v (Read.Bases (end - start)) → Read.Refused q ≡ asking t u v besides
       go true true true p = let z : _≡_ {A = ℕ} 0 1 = cc in absurd (omega arith)
       go true true false p = p
       go true false v p = p
@@ -205,7 +183,7 @@ module _ (alphabet : ℕ) (lent : List ℕ) (offset start end room : ℕ) (r : R
   unfolding coveredAt
   covered-empty n told z = go (ltb start end) (known alphabet) (inBounds end && inBounds offset) (ltb-true start end) (sym told ∙ plain)
     where
-      go : (t u v : Bool) → (t ≡ true → start < end) → Read.Bases n ≡ (ask t else Read.Bases 0 then ask u else Read.Refused (by 8 []) then ask v else Read.Refused (by 2 []) then Read.Bases (end - start)) → Read.Bases n ≡ (ask t else Read.Bases 0 then ask u else Read.Refused (by 8 []) then ask v else Read.Refused (by 2 []) then besides)
+      go : (t u v : Bool) → (t ≡ true → start < end) → Read.Bases n ≡ asking t u v (Read.Bases (end - start)) → Read.Bases n ≡ asking t u v besides
       go true true true some p = absurd (omega (arith, some refl, ap counted p))
       go true true false some p = let x : _≡_ {A = ℕ} 0 1 = cc in absurd (omega arith)
       go true false v some p = let x : _≡_ {A = ℕ} 0 1 = cc in absurd (omega arith)

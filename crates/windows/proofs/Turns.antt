@@ -106,7 +106,8 @@ module _ (byte : ℕ → ℕ) (small : (j : ℕ) → byte j < 256) where
       }
 
   -- one byte more
-  pub refill-more : (place : ℕ) (h h′ : Held) → Holds byte place h → h .have < 8 → h′ .next ≡ h .next + 1 → h′ .have ≡ h .have + 8 → h′ .acc ≡ h .acc % 2 ^ 56 * 256 + byte (h .next) → Holds byte place h′
+  pub refill-more : (place : ℕ) (h h′ : Held) → Holds byte place h → h .have < 8
+      → h′ .next ≡ h .next + 1 → h′ .have ≡ h .have + 8 → h′ .acc ≡ h .acc % 2 ^ 56 * 256 + byte (h .next) → Holds byte place h′
   refill-more place h h′ r few n f a =
       let v : ℕ = byte (h .next) in
       let q : ℕ = h .acc % 2 ^ 56 in

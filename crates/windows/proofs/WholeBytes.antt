@@ -1,50 +1,210 @@
--- Windows that are read by whole bytes: blocks of codes, and plain bytes.
+-- Windows that are read by whole bytes: blocks of codes over any width, and plain bytes.
 use mathlib.Core.Path.{_≡_, refl, sym, ap, _∙_}
-use mathlib.Core.List.{List, [], _∷_, map, append-assoc}
+use mathlib.Core.List.{List, [], _∷_, map}
 use mathlib.Core.Logic.{⊎-elim}
-use Prim.Native.Nat.{ℕ, _+_, _-_, _*_, _/_, _%_, _^_, _≤_, _<_, min}
-use native.Mathlib.Nat.{zero-add, le-of-eq, div-one}
+use Prim.Native.Nat.{ℕ, suc, _+_, _-_, _*_, _/_, _%_, _^_, _≤_, _<_, min}
+use native.Mathlib.Nat.{zero-add, add-assoc, add-mul, one-mul, mul-assoc, mul-one, suc-mul, mul-le-mul-right, le-of-eq, lt-of-lt-of-le, mod-lt, mod-self, mod-eq-of-lt}
+use native.Mathlib.Nat.{div-add-mod', div-mul-le-self, mul-div-cancel}
+use native.Mathlib.Decide.{decLt}
 use native.Mathlib.Omega.{arith}
-use native.Mathlib.Numerals.{towards-suc}
-use lib.ListN.{length, replicate, getD, set, take, drop}
-use lib.Seq.{sets-eq}
+use lib.ListN.{length, replicate, getD, set, length-set, length-map}
+use lib.Pow.{pow-mono}
 use Rattle.bits.specs.Tables.{tabulate, at, Bytes}
 use Rattle.bits.specs.Streams.{bitAt, word, fields}
 use Rattle.bits.specs.Packing.{fileByte, codesFrom}
 use Rattle.bits.specs.Memory.{putAt}
-use Rattle.bits.proofs.Tabulated.{tabulate-ext, getD-tabulate, is-tabulate, replicate-tabulate, front-more}
-use Rattle.bits.proofs.Put.{Filled, none-filled, more-filled}
+use Rattle.bits.proofs.Tabulated.{length-tabulate, tabulate-ext, getD-tabulate, is-tabulate, replicate-tabulate, front-more}
+use Rattle.bits.proofs.Words.{word-lt, bit-lt}
+use Rattle.bits.proofs.Shifts.{push-byte-is, code-lt}
+use Rattle.bits.proofs.Put.{Filled, none-filled, more-filled, put-none, put-one, put-put}
 use Rattle.bits.proofs.Blocks.{block-codes, word-byte, word-bytes}
 use Rattle.bits.proofs.Files.{file-before, file-lent, file-past, file-small, word-lent}
-use Rattle.alphabet.specs.Symbols.{Coding, listed, coding}
+use Rattle.alphabet.specs.Symbols.{Coding, coding}
 use Rattle.alphabet.specs.declared.kind.AlphabetType.{AlphabetType}
-use Rattle.alphabet.specs.declared.kind.AlphabetType.the-variants.{Dna2bit, Dna3bit}
+use Rattle.alphabet.specs.declared.kind.AlphabetType.the-variants.{Dna2bit}
 use Rattle.alphabet.proofs.Laws.{Plain, shape}
 use Rattle.windows.specs.Window.{window}
 use Rattle.windows.specs.Workers.{Decodes, Rows, symbolsOf, stretch, fileBytes}
-use Rattle.windows.proofs.Windows.{baseAt, window-bases}
-use Rattle.windows.proofs.Turns.{more-written, entry}
+use Rattle.windows.proofs.Windows.{baseAt, window-bases, map-tabulate}
+use Rattle.windows.proofs.Turns.{Written, more-written, entry}
 
--- c bases, of which the first begins with byte j, and which fill n bytes
+-- ---- blocks: c bases, b bits wide, that fill n bytes
+
+-- c bases, of which the first begins with byte j
 pub window-block : (A : Coding) (lent : List ℕ) (offset c n i j : ℕ) → i * A .width ≡ j * 8 → c * A .width ≡ n * 8
     → window A lent offset i c ≡ symbolsOf A c (word (bitAt 8 (fileByte lent offset)) (j * 8) (n * 8))
 unfolding window codesFrom symbolsOf
 window-block A lent offset c n i j first whole = ap (map (A .symbol)) (block-codes (fileByte lent offset) (A .width) c n i j first whole)
 
--- the bases that one byte holds
-pub window-of-byte : (A : Coding) (lent : List ℕ) (offset c i j : ℕ) → Bytes lent → i * A .width ≡ j * 8 → c * A .width ≡ 8 → window A lent offset i c ≡ symbolsOf A c (fileByte lent offset j)
-window-of-byte A lent offset c i j bytes first whole =
-    window-block A lent offset c 1 i j first whole
-    ∙ ap (symbolsOf A c) (word-byte (fileByte lent offset) (λ k. file-small lent offset k bytes) j)
+module _ (A : Coding) (lent : List ℕ) (offset c n : ℕ) (whole : c * A .width ≡ n * 8) (first m : ℕ) where
+  abbrev place : ℕ
+  place = (first + m) * n
 
--- the number that three lent bytes write
-pub word-of-three : (lent : List ℕ) (offset j : ℕ) → Bytes lent → offset ≤ j
-    → word (bitAt 8 (fileByte lent offset)) (j * 8) (3 * 8) ≡ (at lent (j - offset) * 256 + at lent (j - offset + 1)) * 256 + at lent (j - offset + 2)
-word-of-three lent offset j bytes h =
-    let r : ℕ = j - offset in
-    word-lent lent offset j 24 h
-    ∙ word-bytes (at lent) bytes r 2
-    ∙ ap (λ (x : ℕ). x * 256 + at lent (r + 2)) (word-bytes (at lent) bytes r 1 ∙ ap (λ (x : ℕ). x * 256 + at lent (r + 1)) (word-byte (at lent) bytes r))
+  -- block m of those from block `first` on
+  block-at : window A lent offset (first * c + m * c) c ≡ symbolsOf A c (word (bitAt 8 (fileByte lent offset)) (place * 8) (n * 8))
+  block-at =
+      let begins : (first * c + m * c) * A .width ≡ place * 8 =
+      ap (λ (x : ℕ). x * A .width) (sym (add-mul first m c))
+      ∙ mul-assoc (first + m) c (A .width)
+      ∙ ap (λ (x : ℕ). (first + m) * x) whole
+      ∙ sym (mul-assoc (first + m) n 8) in
+      window-block A lent offset c n (first * c + m * c) place begins whole
+
+  -- the same where its bytes are lent
+  pub block-of-lent : (v : ℕ) → offset ≤ place → v ≡ word (bitAt 8 (at lent)) ((place - offset) * 8) (n * 8) → symbolsOf A c v ≡ window A lent offset (first * c + m * c) c
+  block-of-lent v h e = ap (symbolsOf A c) (e ∙ sym (word-lent lent offset place (n * 8) h)) ∙ sym block-at
+
+-- a block in one byte
+pub block-of-byte : (A : Coding) (lent : List ℕ) (offset c : ℕ) → Bytes lent → c * A .width ≡ 8 → (first m : ℕ)
+    → symbolsOf A c (fileByte lent offset (first + m)) ≡ window A lent offset (first * c + m * c) c
+block-of-byte A lent offset c bytes whole first m =
+    let byte : ℕ → ℕ = fileByte lent offset in
+    ap (symbolsOf A c) (ap byte (sym (mul-one (first + m))) ∙ sym (word-byte byte (λ j. file-small lent offset j bytes) ((first + m) * 1)))
+    ∙ sym (block-at A lent offset c 1 whole first m)
+
+pub block-of-lent-byte : (A : Coding) (lent : List ℕ) (offset c : ℕ) → Bytes lent → c * A .width ≡ 8 → (first m : ℕ) → offset ≤ first
+    → symbolsOf A c (at lent (first - offset + m)) ≡ window A lent offset (first * c + m * c) c
+block-of-lent-byte A lent offset c bytes whole first m h =
+    let place : first - offset + m ≡ first + m - offset = omega arith in
+    ap (symbolsOf A c) (ap (at lent) place ∙ sym (file-lent lent offset (first + m) (omega arith))) ∙ block-of-byte A lent offset c bytes whole first m
+
+-- blocks written one after another: one more
+pub block-more : (A : Coding) (lent : List ℕ) (offset c from first n : ℕ) (memory out xs : List ℕ) → Written A lent offset from (first * c) (n * c) memory out
+    → from + n * c + c ≤ length memory → xs ≡ window A lent offset (first * c + n * c) c
+    → Written A lent offset from (first * c) ((n + 1) * c) memory (putAt (from + n * c) xs out)
+block-more A lent offset c from first n memory out xs done room e =
+    let up : n * c + c ≡ (n + 1) * c = sym (add-mul n 1 c ∙ ap (λ (x : ℕ). n * c + x) (one-mul c)) in
+    more-written A lent offset from (first * c) (n * c) memory out done c xs room e
+    ∙ ap (λ (m : ℕ). putAt from (window A lent offset (first * c) m) memory) up
+
+-- bytes pushed one after another (`push_byte`) write the number that they write; up to eight of them nothing falls out
+pub pushed : (byte : ℕ → ℕ) → ((j : ℕ) → byte j < 256) → (j n x : ℕ) → n < 8 → x ≡ word (bitAt 8 byte) (j * 8) (n * 8)
+    → x % 2 ^ 56 * 256 + byte (j + n) ≡ word (bitAt 8 byte) (j * 8) (n * 8 + 8)
+pushed byte small j n x h e =
+    let most : n * 8 ≤ 56 = omega arith in
+    let fit : word (bitAt 8 byte) (j * 8) (n * 8) < 2 ^ 56 = lt-of-lt-of-le (word-lt (bitAt 8 byte) (bit-lt 8 byte) (j * 8) (n * 8)) (pow-mono most) in
+    push-byte-is x (byte (j + n)) (rw e fit) ∙ ap (λ (y : ℕ). y * 256 + byte (j + n)) e ∙ sym (word-bytes byte small j n)
+
+-- ---- the symbols of a block, from the table
+
+pub length-symbols : (A : Coding) (c v : ℕ) → length (symbolsOf A c v) ≡ c
+unfolding symbolsOf fields
+length-symbols A c v = simp (length-map, length-tabulate)
+
+-- the entries at the c fields of a number
+pub entries : (A : Coding) (table : List ℕ) (b c v : ℕ) → Decodes A table → A .width ≡ b → map (at table) (fields b c v) ≡ symbolsOf A c v
+unfolding symbolsOf fields
+entries A table b c v decodes width =
+    let f : ℕ → ℕ = λ t. v / 2 ^ ((c - 1 - t) * b) % 2 ^ b in
+    let five : b ≤ 5 = omega (arith, decodes .five) in
+    map-tabulate (at table) f c
+    ∙ tabulate-ext c (λ t. at table (f t)) (λ t. A .symbol (f t)) (λ t h. entry A table (f t) decodes (code-lt (v / 2 ^ ((c - 1 - t) * b)) b five))
+    ∙ sym (map-tabulate (A .symbol) f c)
+    ∙ ap (λ (w : ℕ). map (A .symbol) (fields w c v)) (sym width)
+
+-- ---- stores in a row: at place k, at k + 1, and so on
+
+unfoldable pub stores-from : List ℕ → ℕ → ℕ → List ℕ → List ℕ
+stores-from out k i [] = out
+stores-from out k i (x ∷ xs) = stores-from (set out (k + i) x) k (i + 1) xs
+
+unfoldable pub stores : List ℕ → ℕ → List ℕ → List ℕ
+stores out k [] = out
+stores out k (x ∷ xs) = stores-from (set out k x) k 1 xs
+
+one-more : (out : List ℕ) (k x : ℕ) (xs : List ℕ) → k + 1 + length xs ≤ length out → putAt (k + 1) xs (set out k x) ≡ putAt k (x ∷ xs) out
+one-more out k x xs h = ap (putAt (k + 1) xs) (put-one k x out (omega arith)) ∙ put-put k (x ∷ []) out (omega arith) xs
+
+stored-from : (xs out : List ℕ) (k i : ℕ) → k + i + length xs ≤ length out → stores-from out k i xs ≡ putAt (k + i) xs out
+unfolding stores-from
+stored-from [] out k i h = sym (put-none (k + i) out)
+stored-from (x ∷ xs) out k i h =
+    stored-from xs (set out (k + i) x) k (i + 1) (simp length-set (omega arith))
+    ∙ ap (λ (j : ℕ). putAt j xs (set out (k + i) x)) (sym (add-assoc k i 1))
+    ∙ one-more out (k + i) x xs (omega arith)
+
+pub stored : (xs out : List ℕ) (k : ℕ) → k + length xs ≤ length out → stores out k xs ≡ putAt k xs out
+unfolding stores
+stored [] out k h = sym (put-none k out)
+stored (x ∷ xs) out k h = stored-from xs (set out k x) k 1 (simp length-set (omega arith)) ∙ one-more out k x xs (omega arith)
+
+-- the table's entries at the codes of a block
+pub block-stored : (A : Coding) (table : List ℕ) (b c v : ℕ) → Decodes A table → A .width ≡ b → (codes out : List ℕ) (k : ℕ) → codes ≡ fields b c v → k + c ≤ length out
+    → stores out k (map (at table) codes) ≡ putAt k (symbolsOf A c v) out
+block-stored A table b c v decodes width codes out k e h =
+    ap (λ (l : List ℕ). stores out k l) (ap (map (at table)) e ∙ entries A table b c v decodes width)
+    ∙ stored (symbolsOf A c v) out k (omega (arith, length-symbols A c v))
+
+-- the entries of a list of c numbers
+pub list-stored : (xs out : List ℕ) (c k : ℕ) → length xs ≡ c → k + c ≤ length out → stores out k (tabulate c (at xs)) ≡ putAt k xs out
+list-stored xs out c k e h =
+    ap (λ (l : List ℕ). stores out k l) (sym (is-tabulate c (at xs) 0 xs e (λ i l. refl)))
+    ∙ stored xs out k (omega arith)
+
+-- ---- where blocks of g bases begin and end: a head up to a multiple of g, and r whole blocks behind it
+
+pub head-fits : (x count head : ℕ) → head ≡ min x count → head ≤ count
+head-fits x count head e = omega arith
+
+module _ (g start count head r : ℕ) (some : 0 < g) (e : head ≡ min ((g - start % g) % g) count) (few : r ≤ (count - head) / g) where
+  pub blocks-fit : head + r * g ≤ count
+  blocks-fit =
+      omega (arith, head-fits ((g - start % g) % g) count head e, mul-le-mul-right {m = r} {n = (count - head) / g} g few, div-mul-le-self (count - head) g)
+
+  -- g bases fit behind the head, so it reaches a multiple of g
+  pub aligned : 0 < r * g → (start + head) / g * g ≡ start + head
+  aligned l = go (decLt 0 (start % g))
+    where
+      parts : start / g * g + start % g ≡ start
+      parts = div-add-mod' start g
+
+      inner : head < count
+      inner = omega (arith, blocks-fit)
+
+      go : Dec (0 < start % g) → (start + head) / g * g ≡ start + head
+      go (yes h) =
+          let up : (g - start % g) % g ≡ g - start % g = mod-eq-of-lt (omega (arith, mod-lt start some)) in
+          let sum : start + head ≡ suc (start / g) * g = omega (arith, inner, parts, up, suc-mul (start / g) g, mod-lt start some) in
+          rw sum (ap (λ (x : ℕ). x * g) (mul-div-cancel (suc (start / g)) some))
+      go (no h) =
+          let full : g - start % g ≡ g = omega arith in
+          let up : (g - start % g) % g ≡ 0 = ap (λ (x : ℕ). x % g) full ∙ mod-self g in
+          let sum : start + head ≡ start / g * g = omega (arith, inner, parts, up) in
+          rw sum (ap (λ (x : ℕ). x * g) (mul-div-cancel (start / g) some))
+
+-- ---- the rows of Dna2bit
+
+-- rows filled from the front: one more
+pub row-more : (rows : List (List ℕ)) (row : List ℕ) (v : ℕ) → v < length rows
+    → ((k : ℕ) → k < v → getD rows k [] ≡ symbolsOf (coding Dna2bit) 4 k) → row ≡ symbolsOf (coding Dna2bit) 4 v
+    → (k : ℕ) → k < v + 1 → getD (set rows v row) k [] ≡ symbolsOf (coding Dna2bit) 4 k
+row-more rows row v h done e = rw e (front-more (symbolsOf (coding Dna2bit) 4) [] rows v h done)
+
+pub rows-done : (rows : List (List ℕ)) → length rows ≡ 256 → ((k : ℕ) → k < 256 → getD rows k [] ≡ symbolsOf (coding Dna2bit) 4 k) → Rows rows
+unfolding Rows
+rows-done rows e h = is-tabulate 256 (symbolsOf (coding Dna2bit) 4) [] rows e h
+
+-- the row of a byte
+pub row-of : (rows : List (List ℕ)) (v byte : ℕ) → Rows rows → v ≡ byte → v < 256 → getD rows v [] ≡ symbolsOf (coding Dna2bit) 4 byte
+unfolding Rows
+row-of rows v byte e q h =
+    ap (λ (t : List (List ℕ)). getD t v []) e ∙ getD-tabulate 256 (symbolsOf (coding Dna2bit) 4) v [] h ∙ ap (symbolsOf (coding Dna2bit) 4) q
+
+-- n rows, and the rest behind them
+pub rows-joined : (lent : List ℕ) (offset from first count n : ℕ) (memory out₁ out₂ : List ℕ) → n ≤ count → from + count * 4 ≤ length memory
+    → out₁ ≡ putAt from (window (coding Dna2bit) lent offset (first * 4) (n * 4)) memory
+    → out₂ ≡ putAt (from + n * 4) (window (coding Dna2bit) lent offset ((first + n) * 4) ((count - n) * 4)) out₁
+    → out₂ ≡ putAt from (window (coding Dna2bit) lent offset (first * 4) (count * 4)) memory
+rows-joined lent offset from first count n memory out₁ out₂ h room e₁ e₂ =
+    let A : Coding = coding Dna2bit in
+    let place : (first + n) * 4 ≡ first * 4 + n * 4 = omega arith in
+    let whole : n * 4 + (count - n) * 4 ≡ count * 4 = omega arith in
+    let rest : List ℕ = window A lent offset ((first + n) * 4) ((count - n) * 4) in
+    e₂
+    ∙ more-written A lent offset from (first * 4) (n * 4) memory out₁ e₁ ((count - n) * 4) rest (omega arith) (ap (λ (i : ℕ). window A lent offset i ((count - n) * 4)) place)
+    ∙ ap (λ (m : ℕ). putAt from (window A lent offset (first * 4) m) memory) whole
+
+-- ---- plain bytes
 
 -- a window of plain bytes
 pub window-plain : (A : Coding) → Plain A → (lent : List ℕ) → Bytes lent → (offset start n : ℕ) → window A lent offset start n ≡ fileBytes lent offset start n
@@ -126,147 +286,6 @@ module _ (lent : List ℕ) (offset start count : ℕ) (memory : List ℕ) (room 
       let out : (before < count) × (m ≡ length lent - first) = outside (length lent - first) count before m i em l in
       file-past lent offset (start + (before + m + i)) (past offset start before first m (length lent) i (reach offset start count before eb (out .0)) ef (out .1))))
       ∙ ap (λ (n : ℕ). putAt 0 (tabulate n f) memory) (all .1 .1)
-
--- ---- eight bases of three bits in three bytes
-
-pub three-wide : coding Dna3bit .width ≡ 3
-unfolding coding listed
-three-wide = refl
-
--- the eight symbols of a number, one by one
-pub symbols-of-eight : (A : Coding) (v : ℕ) → A .width ≡ 3
-    → symbolsOf A 8 v ≡ A .symbol (v / 2 ^ 21 % 8) ∷ A .symbol (v / 2 ^ 18 % 8) ∷ A .symbol (v / 2 ^ 15 % 8) ∷ A .symbol (v / 2 ^ 12 % 8)
-    ∷ A .symbol (v / 2 ^ 9 % 8) ∷ A .symbol (v / 2 ^ 6 % 8) ∷ A .symbol (v / 2 ^ 3 % 8) ∷ A .symbol (v / 2 ^ 0 % 8) ∷ []
-unfolding symbolsOf fields tabulate
-symbols-of-eight A v e = ap (λ (b : ℕ). map (A .symbol) (fields b 8 v)) e
-
--- eight stores in a row
-pub eight-stores : (out : List ℕ) (k a b c d e f g h : ℕ) → k + 8 ≤ length out
-    → set (set (set (set (set (set (set (set out k a) (k + 1) b) (k + 2) c) (k + 3) d) (k + 4) e) (k + 5) f) (k + 6) g) (k + 7) h
-    ≡ putAt k (a ∷ b ∷ c ∷ d ∷ e ∷ f ∷ g ∷ h ∷ []) out
-unfolding putAt
-eight-stores out k a b c d e f g h room =
-    let xs : List ℕ = a ∷ b ∷ c ∷ d ∷ e ∷ f ∷ g ∷ h ∷ [] in
-    simp towards-suc (simp towards-suc at (sets-eq xs out k room ∙ append-assoc (take k out) xs (drop (k + 8) out)))
-
-small-field : (x y : ℕ) → x ≡ y % 8 → x < 32
-small-field x y p = omega arith
-
--- the table's entries at the eight fields of a number
-pub eight-entries : (table : List ℕ) (v a b c d e f g h : ℕ) → Decodes (coding Dna3bit) table
-    → a ≡ v / 2 ^ 21 % 8 → b ≡ v / 2 ^ 18 % 8 → c ≡ v / 2 ^ 15 % 8 → d ≡ v / 2 ^ 12 % 8
-    → e ≡ v / 2 ^ 9 % 8 → f ≡ v / 2 ^ 6 % 8 → g ≡ v / 2 ^ 3 % 8 → h ≡ v / 2 ^ 0 % 8
-    → at table a ∷ at table b ∷ at table c ∷ at table d ∷ at table e ∷ at table f ∷ at table g ∷ at table h ∷ [] ≡ symbolsOf (coding Dna3bit) 8 v
-eight-entries table v a b c d e f g h decodes pa pb pc pd pe pf pg ph =
-    let A : Coding = coding Dna3bit in
-    let read : (x y : ℕ) → x ≡ y % 8 → at table x ≡ A .symbol (y % 8) = λ x y p. entry A table x decodes (small-field x y p) ∙ ap (A .symbol) p in
-    rw (read a _ pa, read b _ pb, read c _ pc, read d _ pd, read e _ pe, read f _ pf, read g _ pg, read h _ ph) (sym (symbols-of-eight A v three-wide))
-
--- a block of three lent bytes
-pub block-of-three : (lent : List ℕ) (offset block n v : ℕ) → Bytes lent → offset ≤ (block + n) * 3
-    → v ≡ (at lent ((block + n) * 3 - offset) * 256 + at lent ((block + n) * 3 - offset + 1)) * 256 + at lent ((block + n) * 3 - offset + 2)
-    → symbolsOf (coding Dna3bit) 8 v ≡ window (coding Dna3bit) lent offset (block * 8 + n * 8) 8
-block-of-three lent offset block n v bytes h e =
-    let A : Coding = coding Dna3bit in
-    let first : (block * 8 + n * 8) * A .width ≡ (block + n) * 3 * 8 = rw three-wide (omega arith) in
-    let whole : 8 * A .width ≡ 3 * 8 = rw three-wide in
-    ap (symbolsOf A 8) (e ∙ sym (word-of-three lent offset ((block + n) * 3) bytes h))
-    ∙ sym (window-block A lent offset 8 3 (block * 8 + n * 8) ((block + n) * 3) first whole)
-
--- ---- four bases of two bits in a byte
-
-pub two-wide : coding Dna2bit .width ≡ 2
-unfolding coding listed
-two-wide = refl
-
-pub symbols-of-four : (A : Coding) (v : ℕ) → A .width ≡ 2
-    → symbolsOf A 4 v ≡ A .symbol (v / 64 % 4) ∷ A .symbol (v / 16 % 4) ∷ A .symbol (v / 4 % 4) ∷ A .symbol (v / 1 % 4) ∷ []
-unfolding symbolsOf fields tabulate
-symbols-of-four A v e = ap (λ (b : ℕ). map (A .symbol) (fields b 4 v)) e
-
--- the table's entries at the four fields of a byte
-pub four-entries : (table : List ℕ) (v : ℕ) → table ≡ tabulate 32 (coding Dna2bit .symbol)
-    → at table (v / 64 % 4) ∷ at table (v / 16 % 4) ∷ at table (v / 4 % 4) ∷ at table (v % 4) ∷ [] ≡ symbolsOf (coding Dna2bit) 4 v
-four-entries table v e =
-    let A : Coding = coding Dna2bit in
-    let read : (x : ℕ) → at table (x % 4) ≡ A .symbol (x % 4) = λ x. ap (λ (t : List ℕ). at t (x % 4)) e ∙ getD-tabulate 32 (A .symbol) (x % 4) 0 (omega arith) in
-    let last : at table (v % 4) ≡ A .symbol (v / 1 % 4) = read v ∙ ap (λ (x : ℕ). A .symbol (x % 4)) (sym (div-one v)) in
-    rw (read (v / 64), read (v / 16), read (v / 4), last) (sym (symbols-of-four A v two-wide))
-
--- rows filled from the front: one more
-pub row-more : (rows : List (List ℕ)) (row : List ℕ) (v : ℕ) → v < length rows → ((k : ℕ) → k < v → getD rows k [] ≡ symbolsOf (coding Dna2bit) 4 k) → row ≡ symbolsOf (coding Dna2bit) 4 v
-    → (k : ℕ) → k < v + 1 → getD (set rows v row) k [] ≡ symbolsOf (coding Dna2bit) 4 k
-row-more rows row v h done e = rw e (front-more (symbolsOf (coding Dna2bit) 4) [] rows v h done)
-
-pub rows-done : (rows : List (List ℕ)) → length rows ≡ 256 → ((k : ℕ) → k < 256 → getD rows k [] ≡ symbolsOf (coding Dna2bit) 4 k) → Rows rows
-unfolding Rows
-rows-done rows e h = is-tabulate 256 (symbolsOf (coding Dna2bit) 4) [] rows e h
-
--- the four symbols of a row
-pub four-of-row : (rows : List (List ℕ)) (v byte : ℕ) → Rows rows → v ≡ byte → v < 256
-    → at (getD rows v []) 0 ∷ at (getD rows v []) 1 ∷ at (getD rows v []) 2 ∷ at (getD rows v []) 3 ∷ [] ≡ symbolsOf (coding Dna2bit) 4 byte
-unfolding Rows
-four-of-row rows v byte e q h =
-    let A : Coding = coding Dna2bit in
-    let row : getD rows v [] ≡ symbolsOf A 4 byte = ap (λ (t : List (List ℕ)). getD t v []) e ∙ getD-tabulate 256 (symbolsOf A 4) v [] h ∙ ap (symbolsOf A 4) q in
-    ap (λ (l : List ℕ). at l 0 ∷ at l 1 ∷ at l 2 ∷ at l 3 ∷ []) (row ∙ symbols-of-four A byte two-wide) ∙ sym (symbols-of-four A byte two-wide)
-
--- four stores in a row
-pub four-stores : (out : List ℕ) (k a b c d : ℕ) → k + 4 ≤ length out → set (set (set (set out k a) (k + 1) b) (k + 2) c) (k + 3) d ≡ putAt k (a ∷ b ∷ c ∷ d ∷ []) out
-unfolding putAt
-four-stores out k a b c d room =
-    let xs : List ℕ = a ∷ b ∷ c ∷ d ∷ [] in
-    simp towards-suc (simp towards-suc at (sets-eq xs out k room ∙ append-assoc (take k out) xs (drop (k + 4) out)))
-
--- a row at its byte
-pub row-of-byte : (lent : List ℕ) (offset first n : ℕ) → Bytes lent → symbolsOf (coding Dna2bit) 4 (fileByte lent offset (first + n)) ≡ window (coding Dna2bit) lent offset (first * 4 + n * 4) 4
-row-of-byte lent offset first n bytes =
-    let A : Coding = coding Dna2bit in
-    let place : (first * 4 + n * 4) * A .width ≡ (first + n) * 8 = rw two-wide (omega arith) in
-    let whole : 4 * A .width ≡ 8 = rw two-wide in
-    sym (window-of-byte A lent offset 4 (first * 4 + n * 4) (first + n) bytes place whole)
-
--- the row of a lent byte
-pub row-of-lent : (lent : List ℕ) (offset first n : ℕ) → Bytes lent → offset ≤ first → symbolsOf (coding Dna2bit) 4 (at lent (first - offset + n)) ≡ window (coding Dna2bit) lent offset (first * 4 + n * 4) 4
-row-of-lent lent offset first n bytes h =
-    let place : first - offset + n ≡ first + n - offset = omega arith in
-    ap (symbolsOf (coding Dna2bit) 4) (ap (at lent) place ∙ sym (file-lent lent offset (first + n) (omega arith))) ∙ row-of-byte lent offset first n bytes
-
--- n rows, and the rest behind them
-pub rows-joined : (lent : List ℕ) (offset from first count n : ℕ) (memory out₁ out₂ : List ℕ) → n ≤ count → from + count * 4 ≤ length memory
-    → out₁ ≡ putAt from (window (coding Dna2bit) lent offset (first * 4) (n * 4)) memory
-    → out₂ ≡ putAt (from + n * 4) (window (coding Dna2bit) lent offset ((first + n) * 4) ((count - n) * 4)) out₁
-    → out₂ ≡ putAt from (window (coding Dna2bit) lent offset (first * 4) (count * 4)) memory
-rows-joined lent offset from first count n memory out₁ out₂ h room e₁ e₂ =
-    let A : Coding = coding Dna2bit in
-    let place : (first + n) * 4 ≡ first * 4 + n * 4 = omega arith in
-    let whole : n * 4 + (count - n) * 4 ≡ count * 4 = omega arith in
-    e₂
-    ∙ more-written A lent offset from (first * 4) (n * 4) memory out₁ e₁ ((count - n) * 4) (window A lent offset ((first + n) * 4) ((count - n) * 4)) (omega arith) (ap (λ (i : ℕ). window A lent offset i ((count - n) * 4)) place)
-    ∙ ap (λ (m : ℕ). putAt from (window A lent offset (first * 4) m) memory) whole
-
--- ---- where blocks of g bases begin and end: a head up to a multiple of g, and r whole blocks behind it
-
-pub head-fits : (x count head : ℕ) → head ≡ min x count → head ≤ count
-head-fits x count head e = omega arith
-
-pub blocks-of-eight : (count head r : ℕ) → head ≤ count → r ≤ (count - head) / 8 → head + r * 8 ≤ count
-blocks-of-eight count head r e h = omega arith
-
-pub eight-aligned : (start count head r : ℕ) → head ≡ min ((8 - start % 8) % 8) count → r ≤ (count - head) / 8 → 0 < r * 8 → (start + head) / 8 * 8 ≡ start + head
-eight-aligned start count head r e h l =
-    let inner : head < count = omega arith in
-    let whole : head ≡ (8 - start % 8) % 8 = omega arith in
-    omega arith
-
-pub blocks-of-four : (count head r : ℕ) → head ≤ count → r ≤ (count - head) / 4 → head + r * 4 ≤ count
-blocks-of-four count head r e h = omega arith
-
-pub four-aligned : (start count head r : ℕ) → head ≡ min ((4 - start % 4) % 4) count → r ≤ (count - head) / 4 → 0 < r * 4 → (start + head) / 4 * 4 ≡ start + head
-four-aligned start count head r e h l =
-    let inner : head < count = omega arith in
-    let whole : head ≡ (4 - start % 4) % 4 = omega arith in
-    omega arith
 
 -- ---- the two shapes of alphabets, by their width
 

@@ -1,6 +1,6 @@
 -- The laws of windows that other crates cite: each base by itself, a window in two parts, a window of a packed text.
 use mathlib.Core.Path.{_≡_, refl, sym, ap, ap₂, _∙_}
-use mathlib.Core.Bool.{Bool, true, false, _&&_}
+use mathlib.Core.Bool.{true}
 use mathlib.Core.List.{List, [], _∷_, _++_, map}
 use Prim.Native.Nat.{ℕ, zero, suc, _+_, _-_, _*_, _/_, _%_, _^_, _≤_, _<_}
 use native.Mathlib.Nat.{add-assoc, add-mul, add-zero, suc-mul, mul-le-mul-right, mod-eq-of-lt}
@@ -25,7 +25,7 @@ map-append : (f : ℕ → ℕ) (xs ys : List ℕ) → map f (xs ++ ys) ≡ map f
 map-append f [] ys = refl
 map-append f (x ∷ xs) ys = ap (λ (l : List ℕ). f x ∷ l) (map-append f xs ys)
 
-map-tabulate : (f g : ℕ → ℕ) (n : ℕ) → map f (tabulate n g) ≡ tabulate n (λ i. f (g i))
+pub map-tabulate : (f g : ℕ → ℕ) (n : ℕ) → map f (tabulate n g) ≡ tabulate n (λ i. f (g i))
 unfolding tabulate
 map-tabulate f g zero = refl
 map-tabulate f g (suc n) = map-append f (tabulate n g) (g n ∷ []) ∙ ap (λ (l : List ℕ). l ++ (f (g n) ∷ [])) (map-tabulate f g n)
@@ -98,7 +98,8 @@ window-of-text A law text lent offset start n room members own =
     let len : length part ≡ n = length-take-le n (drop start text) (omega (arith, length-drop start text)) in
     let coded : (i : ℕ) → i < n → A .symbol (at (map (A .code) text) (start + i) % 2 ^ b) ≡ A .canon (at text (start + i)) = λ i h.
     let v : ℕ = at text (start + i) in
-    let code : at (map (A .code) text) (start + i) ≡ A .code v = getD-within (map (A .code) text) (start + i) 0 (A .code 0) (rw (length-map text (A .code)) (omega arith)) ∙ List·getD-map (A .code) text (start + i) 0 in
+    let code : at (map (A .code) text) (start + i) ≡ A .code v =
+    getD-within (map (A .code) text) (start + i) 0 (A .code 0) (rw (length-map text (A .code)) (omega arith)) ∙ List·getD-map (A .code) text (start + i) 0 in
     ap (λ (x : ℕ). A .symbol (x % 2 ^ b)) code ∙ ap (A .symbol) (mod-eq-of-lt (law .fits v (members i h))) ∙ law .back v (members i h) in
     let given : (i : ℕ) → i < n → getD (map (A .canon) part) i (A .canon 0) ≡ A .canon (at text (start + i)) = λ i h.
     List·getD-map (A .canon) part i 0 ∙ ap (A .canon) (getD-take n (drop start text) i 0 h ∙ getD-drop start text i 0) in

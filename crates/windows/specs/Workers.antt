@@ -6,13 +6,32 @@ use Rattle.bits.specs.Tables.{tabulate, at}
 use Rattle.bits.specs.Streams.{bitAt, word, fields}
 use Rattle.bits.specs.Packing.{fileByte}
 use Rattle.alphabet.specs.Symbols.{Coding, coding}
-use Rattle.alphabet.specs.declared.kind.AlphabetType.the-variants.{Dna2bit}
+use Rattle.alphabet.specs.Names.{kindOf}
+use Rattle.alphabet.specs.declared.kind.AlphabetType.{AlphabetType}
+use Rattle.alphabet.specs.declared.kind.AlphabetType.the-variants.{Dna2bit, Dna3bit}
+use Rattle.windows.specs.declared.read.Engine.{Engine}
+use Rattle.windows.specs.declared.read.Read.{Read}
 use Rattle.windows.specs.declared.rolling.Held.{Held}
 
 -- a window that passed the questions: its end is near, and memory has space for its bases from place `from` on
 pub record Fits (start count from room : ℕ) : Type 0 where
   pub near : start + count ≤ 2 ^ 60
   pub space : from + count ≤ room
+
+-- the bases that an answer promises, if any, fit
+abbrev pub Passed : Read → ℕ → ℕ → Type 0
+Passed answer start room = (n : ℕ) → answer ≡ Read.Bases n → (n ≡ 0 → ⊥) → Fits start n 0 room
+
+-- the kind whose symbols an engine writes, where another is asked for
+abbrev pub served : Engine → AlphabetType → AlphabetType
+served Engine.Own kind = kind
+served Engine.Rows kind = Dna2bit
+served Engine.Blocks kind = Dna3bit
+served Engine.Any kind = kind
+
+-- an engine writes the symbols of the alphabet that is asked for
+abbrev pub Serves : Engine → ℕ → Type 0
+Serves engine alphabet = served engine (kindOf alphabet) ≡ kindOf alphabet
 
 -- the decoding table of an alphabet whose codes have at most five bits
 pub record Decodes (A : Coding) (table : List ℕ) : Type 0 where

@@ -4,12 +4,10 @@ use alphabet::AlphabetType;
 use alphabet::Named;
 use alphabet::Refusal;
 use alphabet::kind_of_number;
+use bits::LIMIT;
 ghost use mathlib.Core.Path.{_≡_};
 ghost use Rattle.alphabet.specs.Names.{kindOf};
 ghost use Rattle.windows.specs.Window.{readAt, coveredAt};
-
-// The largest position that a call takes, 2^60.
-const LIMIT: usize = 1152921504606846976;
 
 // The largest number that names an alphabet.
 const LAST_ALPHABET: u64 = 5;

@@ -1,14 +1,15 @@
 // Dna3bit: eight bases from three bytes.
-use crate::plain::least;
-use crate::rolling::field;
-use crate::rolling::push;
 use crate::rolling::roll;
 use alphabet::AlphabetType;
 use alphabet::decoding_array;
+use bits::field;
+use bits::least;
+use bits::push_byte;
 ghost use mathlib.Core.Path.{_≡_};
 ghost use Prim.Native.Nat.{_+_, _*_, _≤_};
 ghost use lib.ListN.{length};
 ghost use Rattle.bits.specs.Tables.{at};
+ghost use Rattle.bits.specs.Streams.{bitAt, word};
 ghost use Rattle.bits.specs.Memory.{putAt};
 ghost use Rattle.alphabet.specs.Symbols.{coding};
 ghost use Rattle.alphabet.specs.declared.kind.AlphabetType.the-variants.{Dna3bit};
@@ -18,9 +19,12 @@ ghost use Rattle.windows.specs.Workers.{Fits, Decodes, symbolsOf};
 // The number that three bytes write.
 fn three(bytes: &[u8], i: usize) -> u64
     requires { ⌜ i + 3 ≤ length (now bytes) ⌝ }
-    ensures { λ r. ⌜ r ≡ (at (now (bytes .entry)) i * 256 + at (now (bytes .entry)) (i + 1)) * 256 + at (now (bytes .entry)) (i + 2) ⌝ }
+    ensures { λ r. ⌜ r ≡ word (bitAt 8 (at (now (bytes .entry)))) (i * 8) (3 * 8) ⌝ }
 {
-    push(push(push(0, bytes[i]), bytes[i + 1]), bytes[i + 2])
+    push_byte(
+        push_byte(push_byte(0, bytes[i]), bytes[i + 1]),
+        bytes[i + 2],
+    )
 }
 
 // The eight symbols of a number, written from place k on.

@@ -1,28 +1,11 @@
 // Plain bytes: a window of Ascii or Unknown is a copy, with zeros where the file's bytes are not lent.
+use bits::beyond;
+use bits::least;
 ghost use mathlib.Core.Path.{_≡_};
-ghost use Prim.Native.Nat.{_+_, _-_, _≤_, min};
+ghost use Prim.Native.Nat.{_+_, _-_, _≤_};
 ghost use lib.ListN.{length, replicate};
 ghost use Rattle.bits.specs.Memory.{putAt};
 ghost use Rattle.windows.specs.Workers.{Fits, stretch, fileBytes};
-
-pub fn least(a: usize, b: usize) -> usize
-    ensures { λ r. ⌜ r ≡ min a b ⌝ }
-{
-    if a < b {
-        return a;
-    }
-    b
-}
-
-// a - b, and 0 where b is larger.
-pub fn beyond(a: usize, b: usize) -> usize
-    ensures { λ r. ⌜ r ≡ a - b ⌝ }
-{
-    if a < b {
-        return 0;
-    }
-    a - b
-}
 
 fn zeros(count: usize, out: &mut [u8], from: usize)
     requires { ⌜ from + count ≤ length (now out) ⌝ }

@@ -11,15 +11,23 @@ use alphabet::Refusal;
 use alphabet::decoding_array;
 ghost use mathlib.Core.Path.{_≡_};
 ghost use lib.ListN.{length};
-ghost use Rattle.bits.specs.Memory.{putAt};
+ghost use Rattle.bits.specs.Memory.{front, putAt};
 ghost use Rattle.alphabet.specs.Symbols.{coding};
-ghost use Rattle.windows.specs.Window.{window, readAt, readMemory, coveredAt, coveredMemory};
-ghost use Rattle.windows.specs.Workers.{Fits};
+ghost use Rattle.windows.specs.Window.{window, readAt, readWrites, readMemory, coveredAt, coveredMemory};
+ghost use Rattle.windows.specs.Workers.{Fits, Passed, served, Serves};
 
 // What every read of a window answers: the bases written.
 pub enum Read {
     Bases(usize),
     Refused(Refusal),
+}
+
+// Which engine writes: an alphabet's own, the rows of Dna2bit, the blocks of Dna3bit, or the rolling one, which takes any alphabet.
+enum Engine {
+    Own,
+    Rows,
+    Blocks,
+    Any,
 }
 
 // `count` bases from base `start` on, by the rolling accumulator; plain bytes are copied.
@@ -42,15 +50,8 @@ fn rolled(
     roll(kind, &table, bytes, offset, start, count, out, 0);
 }
 
-// The same by the engine that suits the kind.
-fn written(
-    kind: AlphabetType,
-    bytes: &[u8],
-    offset: usize,
-    start: usize,
-    count: usize,
-    out: &mut [u8],
-)
+// The same by the kind's own engine, where it has one.
+fn own(kind: AlphabetType, bytes: &[u8], offset: usize, start: usize, count: usize, out: &mut [u8])
     requires { ⌜ Fits start count 0 (length (now out)) ⌝ }
     ensures { λ _. ⌜ now (out .exit) ≡ putAt 0 (window (coding kind) (now (bytes .entry)) offset start count) (now (out .entry)) ⌝ }
 {
@@ -59,6 +60,70 @@ fn written(
         AlphabetType::Dna3bit => three_bits(bytes, offset, start, count, out),
         _ => rolled(kind, bytes, offset, start, count, out),
     }
+}
+
+// The same by an engine. Those of one alphabet are called here and above, so that they stay functions of their own, and this one is laid into each read.
+fn written(
+    engine: Engine,
+    kind: AlphabetType,
+    bytes: &[u8],
+    offset: usize,
+    start: usize,
+    count: usize,
+    out: &mut [u8],
+)
+    requires { ⌜ Fits start count 0 (length (now out)) ⌝ }
+    ensures { λ _. ⌜ now (out .exit)
+        ≡ putAt 0 (window (coding (served engine kind)) (now (bytes .entry)) offset start count) (now (out .entry)) ⌝ }
+{
+    match engine {
+        Engine::Own => own(kind, bytes, offset, start, count, out),
+        Engine::Rows => two_bits(bytes, offset, start, count, out),
+        Engine::Blocks => three_bits(bytes, offset, start, count, out),
+        Engine::Any => rolled(kind, bytes, offset, start, count, out),
+    }
+}
+
+// The second half of every read: what its questions answered, after the bases of an accepted window are written.
+fn answered(
+    answer: Read,
+    engine: Engine,
+    alphabet: u64,
+    bytes: &[u8],
+    offset: usize,
+    start: usize,
+    out: &mut [u8],
+) -> Read
+    requires { ⌜ Passed answer start (length (now out)) × Serves engine alphabet ⌝ }
+    ensures { λ r. ⌜ r ≡ answer ⌝ }
+    ensures { λ _. ⌜ now (out .exit) ≡ front (readWrites alphabet (now (bytes .entry)) offset start answer) (now (out .entry)) ⌝ }
+{
+    let Read::Bases(count) = answer else {
+        return answer;
+    };
+    if count == 0 {
+        return answer;
+    }
+    written(engine, kind_of(alphabet), bytes, offset, start, count, out);
+    answer
+}
+
+// A zero-filling read by an engine.
+fn zero_filling(
+    engine: Engine,
+    alphabet: u64,
+    bytes: &[u8],
+    offset: usize,
+    start: usize,
+    end: usize,
+    out: &mut [u8],
+) -> Read
+    requires { ⌜ Serves engine alphabet ⌝ }
+    ensures { λ r. ⌜ r ≡ readAt alphabet offset start end (length (now (out .entry))) ⌝ }
+    ensures { λ _. ⌜ now (out .exit) ≡ readMemory alphabet (now (bytes .entry)) offset start end (now (out .entry)) ⌝ }
+{
+    let told = asked(alphabet, offset, start, end, out.len());
+    answered(told, engine, alphabet, bytes, offset, start, out)
 }
 
 // The bases from `start` to `end` of the file of which `bytes` are the bytes from `byte_offset` on, written at the front of `out`.
@@ -73,16 +138,7 @@ pub fn decode_substring_from_bytes_at_offset(
     ensures { λ r. ⌜ r ≡ readAt alphabet «byte_offset» start end (length (now (out .entry))) ⌝ }
     ensures { λ _. ⌜ now (out .exit) ≡ readMemory alphabet (now (bytes .entry)) «byte_offset» start end (now (out .entry)) ⌝ }
 {
-    match asked(alphabet, byte_offset, start, end, out.len()) {
-        Read::Bases(count) => {
-            if count == 0 {
-                return Read::Bases(0);
-            }
-            written(kind_of(alphabet), bytes, byte_offset, start, count, out);
-            Read::Bases(count)
-        }
-        Read::Refused(q) => Read::Refused(q),
-    }
+    zero_filling(Engine::Own, alphabet, bytes, byte_offset, start, end, out)
 }
 
 // The same where the lent bytes are the file's first.
@@ -119,17 +175,8 @@ pub fn decode_covered(
     ensures { λ r. ⌜ r ≡ coveredAt alphabet (now (bytes .entry)) «byte_offset» start end (length (now (out .entry))) ⌝ }
     ensures { λ _. ⌜ now (out .exit) ≡ coveredMemory alphabet (now (bytes .entry)) «byte_offset» start end (now (out .entry)) ⌝ }
 {
-    match asked_covered(alphabet, bytes, byte_offset, start, end, out.len()) {
-        Read::Bases(count) => {
-            if count == 0 {
-                return Read::Bases(0);
-            }
-            let kind = kind_of(alphabet);
-            written(kind, bytes, byte_offset, start, count, out);
-            Read::Bases(count)
-        }
-        Read::Refused(q) => Read::Refused(q),
-    }
+    let told = asked_covered(alphabet, bytes, byte_offset, start, end, out.len());
+    answered(told, Engine::Own, alphabet, bytes, byte_offset, start, out)
 }
 
 // The engine of Dna2bit: rows of four symbols.
@@ -143,16 +190,7 @@ pub fn decode_2bit(
     ensures { λ r. ⌜ r ≡ readAt 0 «byte_offset» start end (length (now (out .entry))) ⌝ }
     ensures { λ _. ⌜ now (out .exit) ≡ readMemory 0 (now (bytes .entry)) «byte_offset» start end (now (out .entry)) ⌝ }
 {
-    match asked(0, byte_offset, start, end, out.len()) {
-        Read::Bases(count) => {
-            if count == 0 {
-                return Read::Bases(0);
-            }
-            two_bits(bytes, byte_offset, start, count, out);
-            Read::Bases(count)
-        }
-        Read::Refused(q) => Read::Refused(q),
-    }
+    zero_filling(Engine::Rows, 0, bytes, byte_offset, start, end, out)
 }
 
 // The engine of Dna3bit: eight bases from three bytes.
@@ -166,16 +204,7 @@ pub fn decode_3bit(
     ensures { λ r. ⌜ r ≡ readAt 1 «byte_offset» start end (length (now (out .entry))) ⌝ }
     ensures { λ _. ⌜ now (out .exit) ≡ readMemory 1 (now (bytes .entry)) «byte_offset» start end (now (out .entry)) ⌝ }
 {
-    match asked(1, byte_offset, start, end, out.len()) {
-        Read::Bases(count) => {
-            if count == 0 {
-                return Read::Bases(0);
-            }
-            three_bits(bytes, byte_offset, start, count, out);
-            Read::Bases(count)
-        }
-        Read::Refused(q) => Read::Refused(q),
-    }
+    zero_filling(Engine::Blocks, 1, bytes, byte_offset, start, end, out)
 }
 
 // The engine of any alphabet: the rolling accumulator.
@@ -190,14 +219,5 @@ pub fn decode_rolling(
     ensures { λ r. ⌜ r ≡ readAt alphabet «byte_offset» start end (length (now (out .entry))) ⌝ }
     ensures { λ _. ⌜ now (out .exit) ≡ readMemory alphabet (now (bytes .entry)) «byte_offset» start end (now (out .entry)) ⌝ }
 {
-    match asked(alphabet, byte_offset, start, end, out.len()) {
-        Read::Bases(count) => {
-            if count == 0 {
-                return Read::Bases(0);
-            }
-            rolled(kind_of(alphabet), bytes, byte_offset, start, count, out);
-            Read::Bases(count)
-        }
-        Read::Refused(q) => Read::Refused(q),
-    }
+    zero_filling(Engine::Any, alphabet, bytes, byte_offset, start, end, out)
 }

@@ -1,7 +1,9 @@
 // The rolling accumulator: bytes go in at its low end, bases come out at its high end, one at a time.
 use alphabet::AlphabetType;
+use bits::field;
+use bits::push_byte;
 ghost use mathlib.Core.Path.{_≡_};
-ghost use Prim.Native.Nat.{ℕ, _+_, _*_, _/_, _%_, _^_, _<_, _≤_};
+ghost use Prim.Native.Nat.{ℕ, _+_, _*_, _^_, _<_, _≤_};
 ghost use lib.ListN.{length};
 ghost use Rattle.bits.specs.Memory.{putAt};
 ghost use Rattle.bits.specs.Packing.{fileByte};
@@ -28,29 +30,6 @@ pub fn fetch(bytes: &[u8], offset: usize, j: usize) -> u8
         return bytes[i];
     }
     0
-}
-
-// The n low bits of x.
-pub fn low(x: u64, n: usize) -> u64
-    requires { ⌜ n < 64 ⌝ }
-    ensures { λ r. ⌜ r ≡ x % 2 ^ n ⌝ }
-{
-    x & ((1u64 << n) - 1)
-}
-
-// The bits of acc, and a byte's behind them; the eight highest fall out.
-pub fn push(acc: u64, byte: u8) -> u64
-    ensures { λ r. ⌜ r ≡ acc % 2 ^ 56 * 256 + byte ⌝ }
-{
-    (acc << 8) | (byte as u64)
-}
-
-// The b bits of x above its n low ones.
-pub fn field(x: u64, n: usize, b: usize) -> usize
-    requires { ⌜ (n < 64) × (b < 64) ⌝ }
-    ensures { λ r. ⌜ r ≡ x / 2 ^ n % 2 ^ b ⌝ }
-{
-    low(x >> n, b) as usize
 }
 
 // What is left of a byte from bit `bit` of the file on; nothing where that bit is a byte's first.
@@ -83,7 +62,7 @@ fn refill(bytes: &[u8], offset: usize, held: Held, b: usize) -> Held
 {
     if held.have < b {
         let next = held.next;
-        let acc = push(held.acc, fetch(bytes, offset, next));
+        let acc = push_byte(held.acc, fetch(bytes, offset, next));
         return Held {
             next: next + 1,
             have: held.have + 8,

@@ -1,10 +1,10 @@
 // Dna2bit: four bases from a byte, by rows.
-use crate::plain::beyond;
-use crate::plain::least;
 use crate::rolling::fetch;
 use crate::rolling::roll;
 use alphabet::AlphabetType;
 use alphabet::decoding_array;
+use bits::beyond;
+use bits::least;
 use bits::place;
 ghost use mathlib.Core.Path.{_≡_};
 ghost use Prim.Native.Nat.{_+_, _*_, _≤_};

@@ -1,6 +1,6 @@
 use mathlib.Core.Path.{_≡_, ap, _∙_}
 use mathlib.Core.Bool.{true}
-use Prim.Native.Nat.{_*_, _≤_, _<_, _^_}
+use Prim.Native.Nat.{_*_, _≤_, _^_}
 use native.Mathlib.Omega.{arith}
 use borrow.Author.Needs.{needs}
 use Rattle.bits.specs.Packing.{firstByte}
@@ -10,7 +10,8 @@ use Rattle.alphabet.specs.declared.kind.AlphabetType.{AlphabetType}
 use Rattle.alphabet.proofs.Laws.{lawful}
 use Rattle.windows.specs.Window.{covers}
 use Rattle.windows.proofs.Turns.{bit-fits}
-use Rattle.windows.proofs.Answering.{Placed, placed, placed-some, placed-near, covered-refused, covered-empty, covered-not, covered-short, covered-bases, covered-yes, covered-early, covered-late, range-order}
+use Rattle.windows.proofs.Answering.{covered-yes, covered-early, covered-late, range-order}
+use Rattle.windows.proofs.Answering.{Placed, placed, placed-some, placed-near, covered-refused, covered-empty, covered-not, covered-short, covered-bases}
 use Rattle.windows.proofs.asked.asked_covered.Statement.{statement}
 use Rattle.windows.proofs.asked.asked_covered.Tie as tie
 
@@ -39,7 +40,7 @@ end-fits c = bit-fits (placed-near (window c)) (narrow c)
 begins : (c : tie.Else2) → start (c .before) .args .offset ≤ firstByte (numbered (start (c .before) .args .alphabet) .width) (start (c .before) .args .start)
 begins c = rw (← width (c .before)) (c .if2 .left)
 
-all-lent : (c : tie.Else3) → covers (numbered (start (c .before .before) .args .alphabet)) (start (c .before .before) .args .bytes .now) (start (c .before .before) .args .offset) (start (c .before .before) .args .start) (start (c .before .before) .args .end) ≡ true
+all-lent : (c : tie.Else3) → (let a = start (c .before .before) .args in covers (numbered (a .alphabet)) (a .bytes .now) (a .offset) (a .start) (a .end) ≡ true)
 all-lent c = covered-yes _ _ _ _ _ (begins (c .before)) (rw (← width (c .before .before)) (c .if3 .left))
 
 asked-requires : tie.Need-asked-requires
@@ -86,7 +87,9 @@ sub-if3 : tie.Need-sub-if3
 sub-if3 c = let p = c .before in omega (arith, c .if2 .left, range-order (p .bits-per-symbol .result) (start p .args .start) (start p .args .end) (placed-some (window p)))
 
 returns-4 : tie.Need-returns-4
-returns-4 c = let p = c .before .before in covered-not (window p) (start p .args .bytes .now) (start p .args .room) (covered-late _ _ _ _ _ (begins (c .before)) (rw (← width (c .before .before)) (c .if3 .taken)))
+returns-4 c =
+    let p = c .before .before in
+    covered-not (window p) (start p .args .bytes .now) (start p .args .room) (covered-late _ _ _ _ _ (begins (c .before)) (rw (← width p) (c .if3 .taken)))
 
 returns-5 : tie.Need-returns-5
 returns-5 c = let p = c .before .before .before in covered-short (window p) (start p .args .bytes .now) (start p .args .room) (all-lent (c .before)) (c .if4 .taken)

@@ -1,5 +1,6 @@
+use mathlib.Core.Path.{sym, _∙_}
 use borrow.Author.Needs.{needs}
-use Rattle.windows.proofs.Answering.{kind-named, kind-unnamed}
+use Rattle.alphabet.proofs.Calls.{named-kind, named-refused, unknown-kind}
 use Rattle.windows.proofs.asked.kind_of.Statement.{statement}
 use Rattle.windows.proofs.asked.kind_of.Tie as tie
 
@@ -15,12 +16,13 @@ enum-told c = search needs
 returns : tie.Need-returns
 returns c =
     let n = c .before .before .before in
-    kind-named (n .kind-of-number .result) (n .before .args .alphabet) _ (n .kind-of-number .ensures .0) (c .before .kind .given .1)
+    sym (named-kind (n .before .args .alphabet) _ (sym (n .kind-of-number .ensures .0) ∙ c .before .kind .given .1) .1)
 
 returns-2 : tie.Need-returns-2
 returns-2 c =
     let n = c .before .before in
-    kind-unnamed (n .kind-of-number .result) (n .before .args .alphabet) _ (n .kind-of-number .ensures .0) (c .enum-told .given .1)
+    let number = n .before .args .alphabet in
+    sym (unknown-kind number (named-refused number _ (sym (n .kind-of-number .ensures .0) ∙ c .enum-told .given .1) .0))
 
 pub kind-of-spec : {M : Type 1} → statement M
 kind-of-spec =

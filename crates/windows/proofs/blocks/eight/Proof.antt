@@ -1,11 +1,13 @@
-use mathlib.Core.Path.{ap, _∙_}
-use mathlib.Core.List.{List}
-use Prim.Native.Nat.{ℕ}
+use mathlib.Core.List.{[], _∷_}
 use native.Mathlib.Omega.{arith}
 use lib.ListN.{length-set}
 use borrow.Author.Needs.{needs}
-use Rattle.bits.specs.Memory.{putAt}
-use Rattle.windows.proofs.WholeBytes.{eight-stores, eight-entries}
+use Rattle.bits.specs.Tables.{tabulate}
+use Rattle.bits.specs.Streams.{fields}
+use Rattle.alphabet.specs.Symbols.{coding}
+use Rattle.alphabet.specs.declared.kind.AlphabetType.the-variants.{Dna3bit}
+use Rattle.alphabet.proofs.Laws.{widths}
+use Rattle.windows.proofs.WholeBytes.{stores, stores-from, block-stored}
 use Rattle.windows.proofs.blocks.eight.Statement.{statement}
 use Rattle.windows.proofs.blocks.eight.Tie as tie
 
@@ -106,6 +108,7 @@ same-length : tie.Need-same-length
 same-length c = simp length-set
 
 returns : tie.Need-returns
+unfolding stores stores-from fields tabulate
 returns c =
     let f₈ = c .before in
     let f₇ = f₈ .before .before in
@@ -117,9 +120,20 @@ returns c =
     let f₁ = f₂ .before .before in
     let s = f₁ .before .before in
     let a = s .args in
-    eight-stores (a .out .now) (a .k) _ _ _ _ _ _ _ _ (s .pre .1)
-    ∙ ap (λ (xs : List ℕ). putAt (a .k) xs (a .out .now))
-    (eight-entries (a .table .now) (a .w) _ _ _ _ _ _ _ _ (s .pre .0) (f₁ .field .ensures) (f₂ .field2 .ensures) (f₃ .field3 .ensures) (f₄ .field4 .ensures) (f₅ .field5 .ensures) (f₆ .field6 .ensures) (f₇ .field7 .ensures) (f₈ .field8 .ensures))
+    block-stored (coding Dna3bit) (a .table .now) 3 8 (a .w) (s .pre .0) (widths .of-dna3bit)
+    (f₁ .field .result ∷ f₂ .field2 .result ∷ f₃ .field3 .result ∷ f₄ .field4 .result ∷ f₅ .field5 .result ∷ f₆ .field6 .result ∷ f₇ .field7 .result ∷ f₈ .field8 .result ∷ [])
+    (a .out .now) (a .k)
+    (rw (
+      f₁ .field .ensures,
+      f₂ .field2 .ensures,
+      f₃ .field3 .ensures,
+      f₄ .field4 .ensures,
+      f₅ .field5 .ensures,
+      f₆ .field6 .ensures,
+      f₇ .field7 .ensures,
+      f₈ .field8 .ensures,
+    ))
+    (s .pre .1)
 
 pub eight-spec : {M : Type 1} → statement M
 eight-spec =

@@ -40,8 +40,8 @@ loop-less c = search needs
 loop-again : tie.Need-loop-again Inv-loop μ-loop
 loop-again c =
     let l = c .before .before .loop in
-    let s = c .before .before .before in
-    (search needs, simp length-set (l .inv .1), one-filled (λ i. at (s .args .bytes .now) (s .args .first + i)) (s .args .from) (s .args .out .now) (l .n) (l .out) (l .inv .2) _ (omega arith) refl)
+    let a = c .before .before .before .args in
+    (search needs, simp length-set (l .inv .1), one-filled (λ i. at (a .bytes .now) (a .first + i)) (a .from) (a .out .now) (l .n) (l .out) (l .inv .2) _ (omega arith) refl)
 
 same-length : tie.Need-same-length Inv-loop μ-loop
 same-length c = c .before .loop .inv .1

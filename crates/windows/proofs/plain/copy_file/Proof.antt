@@ -65,7 +65,8 @@ returns c =
     let z = l .before .before .before .before .before in
     let s = z .before .before in
     let a = s .before .before .before .before .args in
-    three-parts (a .bytes .now) (a .offset) (a .start) (a .count) (a .out .now) (omega (arith, s .before .before .before .before .pre .space)) (s .least .result) (l .before .before .beyond2 .result) (l .least2 .result) _ _ _
+    three-parts (a .bytes .now) (a .offset) (a .start) (a .count) (a .out .now) (omega (arith, s .before .before .before .before .pre .space))
+    (s .least .result) (l .before .before .beyond2 .result) (l .least2 .result) _ _ _
     (s .least .ensures ∙ ap (λ (x : ℕ). min x (a .count)) (s .before .beyond .ensures))
     (l .before .before .beyond2 .ensures)
     (l .least2 .ensures ∙ ap (λ (x : ℕ). min x (a .count - s .least .result)) (l .before .beyond3 .ensures))

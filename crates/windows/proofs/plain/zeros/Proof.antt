@@ -45,8 +45,11 @@ same-length c = c .before .loop .inv .1
 returns : tie.Need-returns Inv-loop μ-loop
 returns c =
     let l = c .before .loop in
-    let all : l .n ≡ c .before .before .args .count = omega (arith, l .inv .0, c .loop-test .left) in
-    l .inv .2 ∙ ap (λ (n : ℕ). putAt (c .before .before .args .from) (tabulate n (λ i. 0)) (c .before .before .args .out .now)) all ∙ sym (ap (λ (xs : List ℕ). putAt (c .before .before .args .from) xs (c .before .before .args .out .now)) (replicate-tabulate (c .before .before .args .count) 0))
+    let a = c .before .before .args in
+    let all : l .n ≡ a .count = omega (arith, l .inv .0, c .loop-test .left) in
+    l .inv .2
+    ∙ ap (λ (n : ℕ). putAt (a .from) (tabulate n (λ i. 0)) (a .out .now)) all
+    ∙ sym (ap (λ (xs : List ℕ). putAt (a .from) xs (a .out .now)) (replicate-tabulate (a .count) 0))
 
 pub zeros-spec : {M : Type 1} → statement M
 zeros-spec =

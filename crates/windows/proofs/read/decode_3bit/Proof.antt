@@ -1,66 +1,18 @@
-use mathlib.Core.Path.{refl}
+use mathlib.Core.Path.{sym}
 use borrow.Author.Needs.{needs}
-use lib.ListN.{length}
-use Rattle.alphabet.specs.Names.{kindOf}
 use Rattle.alphabet.specs.declared.kind.AlphabetType.the-variants.{Dna3bit}
-use Rattle.windows.specs.Window.{readAt, readMemory}
-use Rattle.windows.proofs.Answering.{accepted, empty-call, read-call, refused-call}
+use Rattle.alphabet.proofs.Calls.{kind-number}
 use Rattle.windows.proofs.read.decode_3bit.Statement.{statement}
 use Rattle.windows.proofs.read.decode_3bit.Tie as tie
 
-asked-requires : tie.Need-asked-requires
-asked-requires c κs = search needs
-
-enum-known-count : tie.Need-enum-known-count
-enum-known-count c = search needs
-
-returns : tie.Need-returns
-unfolding readMemory
-returns c =
-    let n = c .before .before in
-    let q = n .before .before in
-    let a = q .before .before .before .args in
-    empty-call 1 (a .bytes .now) (a .byte-offset) (a .start) (a .out .now) (readAt 1 (a .byte-offset) (a .start) (a .end) (length (a .out .now))) (q .asked .result) (q .asked .ensures) _ (n .count .given .1) (c .if1 .taken)
-
-three-bits-requires : tie.Need-three-bits-requires
-three-bits-requires c κs =
-    let z = c .before in
-    let n = z .before .before in
-    let q = n .before .before in
-    let a = q .before .before .before .args in
-    accepted 1 (a .byte-offset) (a .start) (a .end) (length (a .out .now)) (q .asked .result) _ (q .asked .ensures) (n .count .given .1) (z .if1 .left)
-
-enum-known-q : tie.Need-enum-known-q
-enum-known-q c = search needs
+zero-filling-requires : tie.Need-zero-filling-requires
+zero-filling-requires c κs = sym (kind-number Dna3bit)
 
 same-length : tie.Need-same-length
-same-length c = c .before .before .three-bits .kept .1 .1 .1 .1 .0
+same-length c = search needs
 
-returns-2 : tie.Need-returns-2
-unfolding readMemory kindOf
-returns-2 c =
-    let w = c .before .before in
-    let n = w .before .before .before .before in
-    let q = n .before .before in
-    let a = q .before .before .before .args in
-    read-call 1 (a .bytes .now) (a .byte-offset) (a .start) (a .out .now) (readAt 1 (a .byte-offset) (a .start) (a .end) (length (a .out .now))) (q .asked .result) (q .asked .ensures) Dna3bit _ _ (n .count .given .1) refl (w .three-bits .ensures)
-
-returns-3 : tie.Need-returns-3
-unfolding readMemory
-returns-3 c =
-    let q = c .before .before .before in
-    let a = q .before .before .before .args in
-    refused-call 1 (a .bytes .now) (a .byte-offset) (a .start) (a .out .now) (readAt 1 (a .byte-offset) (a .start) (a .end) (length (a .out .now))) (q .asked .result) (q .asked .ensures) _ (c .before .q .given .1)
+returns : tie.Need-returns
+returns c = search needs
 
 pub decode-3bit-spec : {M : Type 1} → statement M
-decode-3bit-spec =
-    tie.close
-    (tie.spec
-    asked-requires
-    enum-known-count
-    returns
-    three-bits-requires
-    enum-known-q
-    same-length
-    returns-2
-    returns-3)
+decode-3bit-spec = tie.close (tie.spec zero-filling-requires same-length returns)

@@ -1,67 +1,32 @@
+use mathlib.Core.Path.{refl}
 use borrow.Author.Needs.{needs}
 use lib.ListN.{length}
 use Rattle.windows.specs.Window.{coveredAt, coveredMemory}
-use Rattle.windows.proofs.Answering.{covered-accepted, empty-call, read-call, refused-call}
+use Rattle.windows.proofs.Answering.{covered-accepted, handed-on}
 use Rattle.windows.proofs.read.decode_covered.Statement.{statement}
 use Rattle.windows.proofs.read.decode_covered.Tie as tie
 
 asked-covered-requires : tie.Need-asked-covered-requires
 asked-covered-requires c κs = search needs
 
-enum-known-count : tie.Need-enum-known-count
-enum-known-count c = search needs
+answered-requires : tie.Need-answered-requires
+answered-requires c κs =
+    let q = c .before in
+    let a = q .before .before .before .args in
+    (covered-accepted (a .alphabet) (a .bytes .now) (a .byte-offset) (a .start) (a .end) (length (a .out .now)) (q .asked-covered .result) (q .asked-covered .ensures), refl)
+
+same-length : tie.Need-same-length
+same-length c = search needs
 
 returns : tie.Need-returns
 unfolding coveredMemory
 returns c =
-    let n = c .before .before in
-    let q = n .before .before in
-    let a = q .before .before .before .args in
-    empty-call (a .alphabet) (a .bytes .now) (a .byte-offset) (a .start) (a .out .now) (coveredAt (a .alphabet) (a .bytes .now) (a .byte-offset) (a .start) (a .end) (length (a .out .now))) (q .asked-covered .result) (q .asked-covered .ensures) _ (n .count .given .1) (c .if1 .taken)
-
-kind-of-requires : tie.Need-kind-of-requires
-kind-of-requires c κs = search needs
-
-written-requires : tie.Need-written-requires
-written-requires c κs =
-    let z = c .before .before in
-    let n = z .before .before in
-    let q = n .before .before in
-    let a = q .before .before .before .args in
-    covered-accepted (a .alphabet) (a .bytes .now) (a .byte-offset) (a .start) (a .end) (length (a .out .now)) (q .asked-covered .result) _ (q .asked-covered .ensures) (n .count .given .1) (z .if1 .left)
-
-enum-known-q : tie.Need-enum-known-q
-enum-known-q c = search needs
-
-same-length : tie.Need-same-length
-same-length c = c .before .before .written .kept .1 .1 .1 .1 .1 .0
-
-returns-2 : tie.Need-returns-2
-unfolding coveredMemory
-returns-2 c =
     let w = c .before .before in
-    let n = w .before .before .before .before .before in
-    let q = n .before .before in
+    let q = w .before .before in
     let a = q .before .before .before .args in
-    read-call (a .alphabet) (a .bytes .now) (a .byte-offset) (a .start) (a .out .now) (coveredAt (a .alphabet) (a .bytes .now) (a .byte-offset) (a .start) (a .end) (length (a .out .now))) (q .asked-covered .result) (q .asked-covered .ensures) _ _ _ (n .count .given .1) (w .before .before .kind-of .ensures) (w .written .ensures)
-
-returns-3 : tie.Need-returns-3
-unfolding coveredMemory
-returns-3 c =
-    let q = c .before .before .before in
-    let a = q .before .before .before .args in
-    refused-call (a .alphabet) (a .bytes .now) (a .byte-offset) (a .start) (a .out .now) (coveredAt (a .alphabet) (a .bytes .now) (a .byte-offset) (a .start) (a .end) (length (a .out .now))) (q .asked-covered .result) (q .asked-covered .ensures) _ (c .before .q .given .1)
+    handed-on (a .alphabet) (a .bytes .now) (a .byte-offset) (a .start) (a .out .now) (w .answered .result) (q .asked-covered .result)
+    (coveredAt (a .alphabet) (a .bytes .now) (a .byte-offset) (a .start) (a .end) (length (a .out .now))) _
+    (w .answered .ensures .0) (q .asked-covered .ensures) (w .answered .ensures .1)
 
 pub decode-covered-spec : {M : Type 1} → statement M
-decode-covered-spec =
-    tie.close
-    (tie.spec
-    asked-covered-requires
-    enum-known-count
-    returns
-    kind-of-requires
-    written-requires
-    enum-known-q
-    same-length
-    returns-2
-    returns-3)
+decode-covered-spec = tie.close (tie.spec asked-covered-requires answered-requires same-length returns)

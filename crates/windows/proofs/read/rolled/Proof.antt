@@ -20,7 +20,8 @@ returns c =
     let b = t .before in
     let k = b .before .before in
     let a = k .before .args in
-    of-plain (a .kind) (a .bytes .now) (a .offset) (a .start) (a .count) (a .out .now) _ (λ j. k .shared-slice-known .given j .fits) (sym (b .bits-per-symbol .ensures) ∙ t .if1 .taken) (f .copy-file .ensures)
+    of-plain (a .kind) (a .bytes .now) (a .offset) (a .start) (a .count) (a .out .now) _ (λ j. k .shared-slice-known .given j .fits)
+    (sym (b .bits-per-symbol .ensures) ∙ t .if1 .taken) (f .copy-file .ensures)
 
 decoding-array-requires : tie.Need-decoding-array-requires
 decoding-array-requires c κs = search needs

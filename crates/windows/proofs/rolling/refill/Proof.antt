@@ -11,8 +11,8 @@ use Rattle.windows.proofs.rolling.refill.Tie as tie
 fetch-requires : tie.Need-fetch-requires
 fetch-requires c κs = search needs
 
-push-requires : tie.Need-push-requires
-push-requires c κs = search needs
+push-byte-requires : tie.Need-push-byte-requires
+push-byte-requires c κs = search needs
 
 add-t9 : tie.Need-add-t9
 add-t9 c = search needs
@@ -27,12 +27,12 @@ returns c =
     let a = k .before .args in (
       omega arith,
       omega arith,
-      λ place r. refill-more (fileByte (a .bytes .now) (a .offset)) (λ j. file-small (a .bytes .now) (a .offset) j (λ i. k .shared-slice-known .given i .fits)) place (a .held) _ r (k .before .pre .0) refl refl
-          (p .push .ensures ∙ ap (λ (x : ℕ). a .held .acc % 2 ^ 56 * 256 + x) (p .before .fetch .ensures)),
+      λ place r. refill-more (fileByte (a .bytes .now) (a .offset)) (λ j. file-small _ _ j (λ i. k .shared-slice-known .given i .fits)) place (a .held) _ r
+          (k .before .pre .0) refl refl (p .push-byte .ensures ∙ ap (λ (x : ℕ). a .held .acc % 2 ^ 56 * 256 + x) (p .before .fetch .ensures)),
     )
 
 returns-2 : tie.Need-returns-2
 returns-2 c = (omega arith, omega arith, λ place r. r)
 
 pub refill-spec : {M : Type 1} → statement M
-refill-spec = tie.close (tie.spec fetch-requires push-requires add-t9 add-t10 returns returns-2)
+refill-spec = tie.close (tie.spec fetch-requires push-byte-requires add-t9 add-t10 returns returns-2)

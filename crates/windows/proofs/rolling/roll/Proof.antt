@@ -6,6 +6,7 @@ use lib.ListN.{length, length-set}
 use borrow.Author.Needs.{needs}
 use Rattle.bits.specs.Tables.{tabulate, at}
 use Rattle.bits.specs.Packing.{fileByte}
+use Rattle.bits.proofs.Shifts.{field-is}
 use Rattle.bits.proofs.Files.{file-small}
 use Rattle.alphabet.specs.Symbols.{Coding, coding}
 use Rattle.windows.specs.Workers.{Holds}
@@ -43,19 +44,21 @@ five p = omega (arith, start p .pre .0 .five, p .before .bits-per-symbol .ensure
 
 -- what a refill leaves
 full : (c : tie.After-refill Inv-loop μ-loop)
-    → Holds (byte (c .before .before .before)) ((start (c .before .before .before) .args .start + c .before .before .loop .n) * width (c .before .before .before)) (c .refill .result)
+    → (let p = c .before .before .before in Holds (byte p) ((start p .args .start + c .before .before .loop .n) * width p) (c .refill .result))
 full c = c .refill .ensures .2 _ (c .before .before .loop .inv .2)
 
 -- the entry at the code is the base
 base : (c : tie.After-field Inv-loop μ-loop) (A : Coding)
-    → A .width ≡ width (c .before .before .before .before .before) → start (c .before .before .before .before .before) .args .table .now ≡ tabulate 32 (A .symbol)
-    → (c .field .result < 32) × (at (start (c .before .before .before .before .before) .args .table .now) (c .field .result)
-    ≡ baseAt A (start (c .before .before .before .before .before) .args .bytes .now) (start (c .before .before .before .before .before) .args .offset)
-    (start (c .before .before .before .before .before) .args .start + c .before .before .before .before .loop .n))
+    → (let p = c .before .before .before .before .before in let a = start p .args in
+    A .width ≡ width p → a .table .now ≡ tabulate 32 (A .symbol)
+    → (c .field .result < 32) × (at (a .table .now) (c .field .result) ≡ baseAt A (a .bytes .now) (a .offset) (a .start + c .before .before .before .before .loop .n)))
 base c A w t =
     let r = c .before .before in
     let p = r .before .before .before in
-    decoded A _ _ (width p) _ (c .field .result) _ w (five p) t (c .field .ensures ∙ take-code (byte p) (small p) (width p) _ (r .refill .result) (full r) (r .refill .ensures .0))
+    let held = r .refill .result in
+    let bits : held .have - width p < 64 = omega (arith, r .refill .ensures .1) in
+    decoded A _ _ (width p) _ (c .field .result) _ w (five p) t
+    (c .field .ensures ∙ field-is bits {b = width p} (omega (arith, five p)) (held .acc) ∙ take-code (byte p) (small p) (width p) _ held (full r) (r .refill .ensures .0))
 
 bits-per-symbol-requires : tie.Need-bits-per-symbol-requires Inv-loop μ-loop
 bits-per-symbol-requires c κs = search needs
@@ -90,7 +93,7 @@ sub-have : tie.Need-sub-have Inv-loop μ-loop
 sub-have c = c .before .refill .ensures .0
 
 field-requires : tie.Need-field-requires Inv-loop μ-loop
-field-requires c κs = let p = c .before .before .before .before in (omega (arith, c .before .refill .ensures .1, five p), omega (arith, five p))
+field-requires c κs = search needs
 
 element-copy-out-out : tie.Need-element-copy-out-out Inv-loop μ-loop
 element-copy-out-out c =
@@ -127,7 +130,8 @@ loop-again c =
       omega (arith, r .refill .ensures .1),
       rw (← one-on (a .start) (l .n) (width p)) (take-rest (byte p) (small p) (width p) _ (r .refill .result) (full r) (r .refill .ensures .0) _ refl refl refl),
       simp length-set (l .inv .3),
-      λ A w t. one-written A (a .bytes .now) (a .offset) (a .from) (a .start) (l .n) (a .out .now) (l .out) (l .inv .4 A w t) _ (omega (arith, more, start p .pre .1 .space)) (base (c .before) A w t .1),
+      λ A w t. one-written A (a .bytes .now) (a .offset) (a .from) (a .start) (l .n) (a .out .now) (l .out) (l .inv .4 A w t) _ (omega (arith, more, start p .pre .1 .space))
+          (base (c .before) A w t .1),
     )
 
 same-length : tie.Need-same-length Inv-loop μ-loop

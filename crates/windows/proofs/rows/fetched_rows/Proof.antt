@@ -1,15 +1,15 @@
 use mathlib.Core.Path.{_≡_, refl, ap, _∙_}
-use Prim.Native.Nat.{ℕ, _+_, _*_, _-_, _≤_, zero-le}
+use Prim.Native.Nat.{_*_, _-_, _≤_, zero-le}
 use native.Mathlib.Omega.{arith}
 use borrow.Author.Needs.{needs}
 use lib.ListN.{length}
-use Rattle.bits.specs.Memory.{putAt}
 use Rattle.alphabet.specs.Symbols.{coding}
 use Rattle.alphabet.specs.declared.kind.AlphabetType.the-variants.{Dna2bit}
-use Rattle.windows.specs.Window.{window}
+use Rattle.alphabet.proofs.Laws.{widths}
+use Rattle.alphabet.proofs.Laws.{widths}
 use Rattle.windows.specs.Workers.{symbolsOf}
-use Rattle.windows.proofs.Turns.{Written, none-written, more-written}
-use Rattle.windows.proofs.WholeBytes.{row-of-byte}
+use Rattle.windows.proofs.Turns.{Written, none-written}
+use Rattle.windows.proofs.WholeBytes.{block-of-byte, block-more}
 use Rattle.windows.proofs.rows.fetched_rows.Statement.{statement}
 use Rattle.windows.proofs.rows.fetched_rows.Tie as tie
 
@@ -58,14 +58,14 @@ loop-again c =
     let l = i .before .loop in
     let k = i .before .before .before in
     let s = k .before in
-    let a = s .args in
-    let up : l .n * 4 + 4 ≡ (l .n + 1) * 4 = omega arith in (
+    let a = s .args in (
       omega (arith, i .loop-test .taken),
       p .put-row .kept .1 .1 .0 ∙ l .inv .1,
       p .put-row .ensures
-          ∙ more-written (coding Dna2bit) (a .bytes .now) (a .offset) (a .from) (a .first * 4) (l .n * 4) (a .out .now) (l .out) (l .inv .2) 4 _ (omega (arith, i .loop-test .taken, s .pre .1 .space))
-          (ap (symbolsOf (coding Dna2bit) 4) (t .fetch .ensures) ∙ row-of-byte (a .bytes .now) (a .offset) (a .first) (l .n) (λ j. k .shared-slice-known .given j .fits))
-          ∙ ap (λ (n : ℕ). putAt (a .from) (window (coding Dna2bit) (a .bytes .now) (a .offset) (a .first * 4) n) (a .out .now)) up,
+          ∙ block-more (coding Dna2bit) (a .bytes .now) (a .offset) 4 (a .from) (a .first) (l .n) (a .out .now) (l .out) _ (l .inv .2)
+          (omega (arith, i .loop-test .taken, s .pre .1 .space))
+          (ap (symbolsOf (coding Dna2bit) 4) (t .fetch .ensures)
+          ∙ block-of-byte (coding Dna2bit) (a .bytes .now) (a .offset) 4 (λ j. k .shared-slice-known .given j .fits) (rw (widths .of-dna2bit)) (a .first) (l .n)),
     )
 
 same-length : tie.Need-same-length Inv-loop μ-loop

@@ -1,14 +1,13 @@
-use mathlib.Core.Path.{_≡_, refl, ap, _∙_}
+use mathlib.Core.Path.{_≡_, refl, _∙_}
 use Prim.Native.Nat.{ℕ, _+_, _*_, _-_, _≤_, _<_, min, zero-le}
 use native.Mathlib.Omega.{arith}
 use borrow.Author.Needs.{needs}
 use lib.ListN.{length}
-use Rattle.bits.specs.Memory.{putAt}
 use Rattle.alphabet.specs.Symbols.{coding}
 use Rattle.alphabet.specs.declared.kind.AlphabetType.the-variants.{Dna2bit}
-use Rattle.windows.specs.Window.{window}
-use Rattle.windows.proofs.Turns.{Written, none-written, more-written}
-use Rattle.windows.proofs.WholeBytes.{row-of-lent}
+use Rattle.alphabet.proofs.Laws.{widths}
+use Rattle.windows.proofs.Turns.{Written, none-written}
+use Rattle.windows.proofs.WholeBytes.{block-of-lent-byte, block-more}
 use Rattle.windows.proofs.rows.lent_rows.Statement.{statement}
 use Rattle.windows.proofs.rows.lent_rows.Tie as tie
 
@@ -30,7 +29,7 @@ most p = omega (arith, p .least .ensures)
 within : (lent count x most n i : ℕ) → count ≡ min x most → x ≡ lent - i → n < count → i + n < lent
 within lent count x most n i e f h = omega arith
 
-lies : (c : tie.In-loop Inv-loop μ-loop) → start (c .before .before) .args .first - start (c .before .before) .args .offset + c .before .loop .n < length (start (c .before .before) .args .bytes .now)
+lies : (c : tie.In-loop Inv-loop μ-loop) → (let a = start (c .before .before) .args in a .first - a .offset + c .before .loop .n < length (a .bytes .now))
 lies c = let p = c .before .before in within _ _ _ _ _ _ (p .least .ensures) (p .before .beyond .ensures) (c .loop-test .taken)
 
 returns : tie.Need-returns Inv-loop μ-loop
@@ -85,14 +84,14 @@ loop-again c =
     let l = i .before .loop in
     let p = i .before .before in
     let e = p .before .before in
-    let a = start p .args in
-    let up : l .n * 4 + 4 ≡ (l .n + 1) * 4 = omega arith in (
+    let a = start p .args in (
       omega (arith, i .loop-test .taken),
       w .put-row .kept .1 .1 .0 ∙ l .inv .1,
       w .put-row .ensures
-          ∙ more-written (coding Dna2bit) (a .bytes .now) (a .offset) (a .from) (a .first * 4) (l .n * 4) (a .out .now) (l .out) (l .inv .2) 4 _ (omega (arith, i .loop-test .taken, most p, start p .pre .1 .space))
-          (row-of-lent (a .bytes .now) (a .offset) (a .first) (l .n) (λ j. e .before .before .shared-slice-known .given j .fits) (e .if1 .left))
-          ∙ ap (λ (n : ℕ). putAt (a .from) (window (coding Dna2bit) (a .bytes .now) (a .offset) (a .first * 4) n) (a .out .now)) up,
+          ∙ block-more (coding Dna2bit) (a .bytes .now) (a .offset) 4 (a .from) (a .first) (l .n) (a .out .now) (l .out) _ (l .inv .2)
+          (omega (arith, i .loop-test .taken, most p, start p .pre .1 .space))
+          (block-of-lent-byte (coding Dna2bit) (a .bytes .now) (a .offset) 4 (λ j. e .before .before .shared-slice-known .given j .fits) (rw (widths .of-dna2bit)) (a .first) (l .n)
+          (e .if1 .left)),
     )
 
 same-length : tie.Need-same-length Inv-loop μ-loop

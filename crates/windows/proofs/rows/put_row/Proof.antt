@@ -1,11 +1,15 @@
-use mathlib.Core.Path.{ap, _∙_}
-use mathlib.Core.List.{List}
+use mathlib.Core.Path.{_≡_, ap, _∙_}
+use mathlib.Core.List.{List, []}
 use Prim.Native.Nat.{ℕ}
 use native.Mathlib.Omega.{arith}
-use lib.ListN.{length-set}
+use lib.ListN.{length, getD, length-set}
 use borrow.Author.Needs.{needs}
+use Rattle.bits.specs.Tables.{tabulate}
 use Rattle.bits.specs.Memory.{putAt}
-use Rattle.windows.proofs.WholeBytes.{four-of-row, four-stores}
+use Rattle.alphabet.specs.Symbols.{coding}
+use Rattle.alphabet.specs.declared.kind.AlphabetType.the-variants.{Dna2bit}
+use Rattle.windows.specs.Workers.{symbolsOf}
+use Rattle.windows.proofs.WholeBytes.{length-symbols, stores, stores-from, list-stored, row-of}
 use Rattle.windows.proofs.rows.put_row.Statement.{statement}
 use Rattle.windows.proofs.rows.put_row.Tie as tie
 
@@ -55,12 +59,15 @@ same-length : tie.Need-same-length
 same-length c = simp length-set
 
 returns : tie.Need-returns
+unfolding stores stores-from tabulate
 returns c =
     let p = c .before in
     let s = p .before .before in
     let a = s .args in
-    four-stores (a .out .now) (a .k) _ _ _ _ (s .pre .1)
-    ∙ ap (λ (xs : List ℕ). putAt (a .k) xs (a .out .now)) (four-of-row (a .rows .now) (p .place .result) (a .byte) (s .pre .0) (p .place .ensures .0) (p .place .ensures .1))
+    let row : getD (a .rows .now) (p .place .result) [] ≡ symbolsOf (coding Dna2bit) 4 (a .byte) =
+    row-of (a .rows .now) _ (a .byte) (s .pre .0) (p .place .ensures .0) (p .place .ensures .1) in
+    list-stored (getD (a .rows .now) (p .place .result) []) (a .out .now) 4 (a .k) (ap length row ∙ length-symbols (coding Dna2bit) 4 (a .byte)) (s .pre .1)
+    ∙ ap (λ (xs : List ℕ). putAt (a .k) xs (a .out .now)) row
 
 pub put-row-spec : {M : Type 1} → statement M
 put-row-spec =

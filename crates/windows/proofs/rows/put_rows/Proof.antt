@@ -26,7 +26,8 @@ fetched-rows-requires : tie.Need-fetched-rows-requires
 fetched-rows-requires c κs =
     let r = c .before .before .before in
     let s = r .before .before .before .before in
-    (s .pre .0, record { near = omega (arith, r .lent-rows .ensures .0, s .pre .1 .near); space = omega (arith, r .lent-rows .ensures .0, s .pre .1 .space, r .lent-rows .kept .1 .1 .1 .1 .1 .0) })
+    let n = r .lent-rows in
+    (s .pre .0, record { near = omega (arith, n .ensures .0, s .pre .1 .near); space = omega (arith, n .ensures .0, s .pre .1 .space, n .kept .1 .1 .1 .1 .1 .0) })
 
 same-length : tie.Need-same-length
 same-length c =
@@ -39,7 +40,8 @@ returns c =
     let r = f .before .before .before .before in
     let s = r .before .before .before .before in
     let a = s .args in
-    rows-joined (a .bytes .now) (a .offset) (a .from) (a .first) (a .count) (r .lent-rows .result) (a .out .now) _ _ (r .lent-rows .ensures .0) (s .pre .1 .space) (r .lent-rows .ensures .1) (f .fetched-rows .ensures)
+    rows-joined (a .bytes .now) (a .offset) (a .from) (a .first) (a .count) (r .lent-rows .result) (a .out .now) _ _
+    (r .lent-rows .ensures .0) (s .pre .1 .space) (r .lent-rows .ensures .1) (f .fetched-rows .ensures)
 
 pub put-rows-spec : {M : Type 1} → statement M
 put-rows-spec =

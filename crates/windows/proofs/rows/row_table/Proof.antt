@@ -1,14 +1,18 @@
-use mathlib.Core.Path.{_≡_}
-use mathlib.Core.List.{[]}
-use Prim.Native.Nat.{ℕ, _≤_, _<_, _-_}
-use native.Mathlib.Nat.{not-suc-le-zero}
+use mathlib.Core.Path.{_≡_, sym, ap, _∙_}
+use mathlib.Core.List.{List, [], _∷_}
+use Prim.Native.Nat.{ℕ, _≤_, _<_, _-_, _/_, _%_}
+use native.Mathlib.Nat.{not-suc-le-zero, div-one}
 use native.Mathlib.Omega.{arith}
+use lib.Dec.{lit≤}
 use lib.ListN.{length, getD, length-set}
 use borrow.Author.Needs.{needs}
+use Rattle.bits.specs.Tables.{tabulate, at}
+use Rattle.bits.specs.Streams.{fields}
 use Rattle.alphabet.specs.Symbols.{coding}
 use Rattle.alphabet.specs.declared.kind.AlphabetType.the-variants.{Dna2bit}
+use Rattle.alphabet.proofs.Laws.{widths}
 use Rattle.windows.specs.Workers.{symbolsOf}
-use Rattle.windows.proofs.WholeBytes.{four-entries, row-more, rows-done}
+use Rattle.windows.proofs.WholeBytes.{entries, row-more, rows-done}
 use Rattle.windows.proofs.rows.row_table.Statement.{statement}
 use Rattle.windows.proofs.rows.row_table.Tie as tie
 
@@ -17,6 +21,14 @@ Inv-loop table rows₀ v₀ rows v = (v ≤ 256) × (length rows ≡ 256) × ((k
 
 abbrev μ-loop : tie.MeasureT-loop
 μ-loop table rows₀ v₀ rows v = 256 - v
+
+-- the table's entries at the four fields of a byte
+four-entries : (table : List ℕ) (v : ℕ) → table ≡ tabulate 32 (coding Dna2bit .symbol)
+    → at table (v / 64 % 4) ∷ at table (v / 16 % 4) ∷ at table (v / 4 % 4) ∷ at table (v % 4) ∷ [] ≡ symbolsOf (coding Dna2bit) 4 v
+unfolding fields tabulate
+four-entries table v e =
+    ap (λ (x : ℕ). at table (v / 64 % 4) ∷ at table (v / 16 % 4) ∷ at table (v / 4 % 4) ∷ at table (x % 4) ∷ []) (sym (div-one v))
+    ∙ entries (coding Dna2bit) table 2 4 v (record { five = rw (widths .of-dna2bit) (lit≤ tt); entries = e }) (widths .of-dna2bit)
 
 decoding-array-requires : tie.Need-decoding-array-requires Inv-loop μ-loop
 decoding-array-requires c κs = search needs
@@ -53,7 +65,7 @@ loop-again c =
     let l = c .before .loop in (
       search needs,
       simp length-set (l .inv .1),
-      row-more (l .rows) _ (l .v) (omega (arith, l .inv .1, c .loop-test .taken)) (l .inv .2) (four-entries (c .before .before .decoding-array .result) (l .v) (c .before .before .decoding-array .ensures)),
+      row-more (l .rows) _ (l .v) (omega (arith, l .inv .1, c .loop-test .taken)) (l .inv .2) (four-entries _ (l .v) (c .before .before .decoding-array .ensures)),
     )
 
 returns : tie.Need-returns Inv-loop μ-loop
