@@ -8,8 +8,8 @@ use borrow.Author.Tests.{le-leb, leb-true, leb-false}
 use lib.Count.{trailingZeros}
 use lib.Dec.{leb, lit≤}
 use lib.ListN.{length, getD, take, List·getD-eq-default}
-use Rattle.alphabet.specs.Symbols.{bytesOf, coding}
-use Rattle.bits.specs.Tables.{at, Bytes}
+use Rattle.alphabet.specs.Symbols.{coding}
+use Rattle.bits.specs.Tables.{at, Bytes, bytesOf}
 use Rattle.alphabet.specs.Questions.{ask_else_then_, accepted, refused, by, refusalReply}
 use Rattle.alphabet.specs.declared.refusal.Refusal.{Refusal}
 use Rattle.alphabet.specs.Names.{displayName, nameOf, kinds, numberOf, known, kindOf, namedAt}
@@ -72,6 +72,14 @@ kind-number DnaIupac = refl
 kind-number Protein = refl
 kind-number Ascii = refl
 kind-number Unknown = refl
+
+pub known-number : (k : AlphabetType) → known (numberOf k) ≡ true
+known-number Dna2bit = refl
+known-number Dna3bit = refl
+known-number DnaIupac = refl
+known-number Protein = refl
+known-number Ascii = refl
+known-number Unknown = refl
 
 -- a number that names none counts as Unknown
 pub unknown-kind : (n : ℕ) → known n ≡ false → kindOf n ≡ Unknown
