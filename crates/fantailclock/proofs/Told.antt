@@ -18,35 +18,17 @@ use Rattle.alphabet.specs.declared.kind.AlphabetType.{AlphabetType}
 use Rattle.alphabet.specs.declared.kind.Name.{Name}
 use Rattle.alphabet.specs.declared.kind.Named.{Named}
 use Rattle.alphabet.specs.declared.refusal.Refusal.{Refusal}
-use Rattle.alphabet.specs.declared.refusal.Refusal.the-variants.{Unsound, TooFar, Uncovered, ShortMemory, NonMember, BadSkip, Outstanding, NoAlphabet, TooWide}
 use Rattle.alphabet.specs.declared.guesser.AlphabetGuesser.{AlphabetGuesser}
 use Rattle.alphabet.specs.declared.guesser.GuesserUpdated.{GuesserUpdated}
 use Rattle.alphabet.specs.declared.guesser.Guessed.{Guessed}
 use Rattle.alphabet.proofs.Laws.{lawful}
-use Rattle.alphabet.proofs.Calls.{spelt, named-kind, named-refused, sound-range}
+use Rattle.alphabet.proofs.Calls.{is-refused, spelt, named-kind, named-refused, sound-range}
 use Rattle.fantailclock.specs.declared.shapes.Number.{Number}
 use Rattle.fantailclock.specs.declared.shapes.Count.{Count}
 use Rattle.fantailclock.specs.declared.shapes.Guesser.{Guesser}
 use Rattle.fantailclock.specs.declared.shapes.Guessing.{Guessing}
 use Rattle.fantailclock.specs.Shapes.{number, count, guesser, guessing}
 use Rattle.fantailclock.specs.Kinds.{bitsTold, containsTold, nameTold, nameMemory, guessedTold}
-
--- ---- a refusal
-
-abbrev details : Reply → List ℕ
-details (accepted values) = []
-details (refused n values) = values
-
-pub is-refused : (q : Refusal) → refusalReply q ≡ refused (numberIn (refusalReply q)) (details (refusalReply q))
-is-refused Unsound = refl
-is-refused TooFar = refl
-is-refused Uncovered = refl
-is-refused ShortMemory = refl
-is-refused (NonMember position byte) = refl
-is-refused BadSkip = refl
-is-refused (Outstanding bases) = refl
-is-refused NoAlphabet = refl
-is-refused TooWide = refl
 
 -- ---- calls on alphabets
 
