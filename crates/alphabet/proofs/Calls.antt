@@ -216,7 +216,11 @@ pub update-told : (g : AlphabetGuesser) (text : List ℕ) → guesserUpdatedRepl
 unfolding guesserUpdateAt
 update-told g text = go (soundGuesser g)
   where
-    go : (b : Bool) → guesserUpdatedReply (ask b else GuesserUpdated.Refused (by 1 []) g then GuesserUpdated.Next (record { acc = masked (g .acc) text })) ≡ (ask b else refused 1 [] then accepted (masked (g .acc) text ∷ []))
+    m : ℕ
+    m = masked (g .acc) text
+
+    go : (b : Bool)
+        → guesserUpdatedReply (ask b else GuesserUpdated.Refused (by 1 []) g then GuesserUpdated.Next (record { acc = m })) ≡ (ask b else refused 1 [] then accepted (m ∷ []))
     go true = refl
     go false = refl
 
@@ -239,10 +243,14 @@ pub guess-told : (g : AlphabetGuesser) → guessedReply (guessAt g) ≡ guessTol
 unfolding guessAt lowest
 guess-told g = go (soundGuesser g) refl
   where
-    go : (b : Bool) → soundGuesser g ≡ b → guessedReply (ask b else Guessed.Refused (by 1 []) g then Guessed.Kind (getD order (trailingZeros 8 (g .acc)) Unknown)) ≡ (ask b else refused 1 [] then accepted (trailingZeros 8 (g .acc) ∷ []))
+    n : ℕ
+    n = trailingZeros 8 (g .acc)
+
+    go : (b : Bool) → soundGuesser g ≡ b
+        → guessedReply (ask b else Guessed.Refused (by 1 []) g then Guessed.Kind (getD order n Unknown)) ≡ (ask b else refused 1 [] then accepted (n ∷ []))
     go true e =
         let r = sound-range g e in
-        ap (λ (x : ℕ). accepted (x ∷ [])) (order-number (trailingZeros 8 (g .acc)) (zeros-lt (g .acc) (r .0) (r .1)))
+        ap (λ (x : ℕ). accepted (x ∷ [])) (order-number n (zeros-lt (g .acc) (r .0) (r .1)))
     go false e = refl
 
 -- ---- the guesser's calls
@@ -268,7 +276,8 @@ guess-sound g e = rw e
 pub named-whole : (r : Named) (n : ℕ) → r ≡ namedAt n → (r ≡ namedAt n) × (namedReply r ≡ namedTold n)
 named-whole r n e = (e, ap namedReply e ∙ named-told n)
 
-pub update-whole : (r : GuesserUpdated) (g : AlphabetGuesser) (text : List ℕ) → r ≡ guesserUpdateAt g text → (r ≡ guesserUpdateAt g text) × (guesserUpdatedReply r ≡ guesserUpdateTold g text)
+pub update-whole : (r : GuesserUpdated) (g : AlphabetGuesser) (text : List ℕ) → r ≡ guesserUpdateAt g text
+    → (r ≡ guesserUpdateAt g text) × (guesserUpdatedReply r ≡ guesserUpdateTold g text)
 update-whole r g text e = (e, ap guesserUpdatedReply e ∙ update-told g text)
 
 pub guess-whole : (r : Guessed) (g : AlphabetGuesser) → r ≡ guessAt g → (r ≡ guessAt g) × (guessedReply r ≡ guessTold g)
