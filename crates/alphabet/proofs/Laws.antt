@@ -1,4 +1,4 @@
--- The laws of symbols and codes that the crates above cite. They open no definition of this crate: what they know of an alphabet stands here.
+-- The laws of symbols and codes that the crates above cite. They open no definition of this crate: what they know of an alphabet stands here and in Calls.
 use mathlib.Core.Path.{_≡_, refl, sym, ap, subst, _∙_}
 use mathlib.Core.Bool.{Bool, true, false, not, _||_, true≢false}
 use mathlib.Core.List.{List, map}

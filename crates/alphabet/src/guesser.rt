@@ -79,7 +79,8 @@ impl AlphabetGuesser {
             return Guessed::Refused(Refusal::Unsound, self);
         }
         let i = u8::trailing_zeros(self.acc) as usize;
-        Guessed::Kind(ALPHABET_ORDER[i])
+        let kind = ALPHABET_ORDER[i];
+        Guessed::Kind(kind)
     }
 }
 
