@@ -11,7 +11,11 @@ pub fn rows(bench: &mut Bench) {
     for piece in [64, 4096, 65536] {
         update(bench, &format!("guesser_update {piece} ACGT"), &dna[..bench.long], piece);
     }
-    guess(bench, "guess Protein", &text(b"ACDEFGHIKLMNPQRSTVWY", 4 * bench.long));
+    let others: [(&str, &[u8]); 3] =
+        [("Dna3bit", b"ACGTNRYU"), ("DnaIupac", b"NACMGRSKTWYUBDHV"), ("Protein", b"ACDEFGHIKLMNPQRSTVWY")];
+    for (alphabet, symbols) in others {
+        guess(bench, &format!("guess {alphabet}"), &text(symbols, 4 * bench.long));
+    }
 }
 
 fn guess(bench: &mut Bench, name: &str, text: &[u8]) {

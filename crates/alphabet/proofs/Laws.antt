@@ -1,4 +1,4 @@
--- The laws of symbols and codes that the crates above cite. They open no definition of this crate: what they know of an alphabet stands here.
+-- The laws of symbols and codes that the crates above cite. They open no definition of this crate: what they know of an alphabet stands here and in Calls.
 use mathlib.Core.Path.{_≡_, refl, sym, ap, subst, _∙_}
 use mathlib.Core.Bool.{Bool, true, false, not, _||_, true≢false}
 use mathlib.Core.List.{List, map}
@@ -9,10 +9,11 @@ use native.Mathlib.Nat.{pow-le-pow-right}
 use native.Mathlib.Omega.{arith}
 use borrow.Author.Tests.{ltb-true, lt-ltb, eq-eqb, ne-eqb, eqb-true}
 use lib.Dec.{T, eqb, ltb, eqb→eq, lit≤, lit<}
+use Rattle.bits.specs.Tables.{bytesOf}
 use Rattle.bits.proofs.Computed.{below, T-true}
 use Rattle.alphabet.specs.declared.kind.AlphabetType.{AlphabetType}
 use Rattle.alphabet.specs.declared.kind.AlphabetType.the-variants.{Dna2bit, Dna3bit, DnaIupac, Protein, Ascii, Unknown}
-use Rattle.alphabet.specs.Symbols.{bytesOf, coded, dna2bit, dna3bit, dnaIupac, protein, symbolOf, codeOf, among, found, Coding, canon, listed, plain, coding, checkSymbols}
+use Rattle.alphabet.specs.Symbols.{coded, dna2bit, dna3bit, dnaIupac, protein, symbolOf, codeOf, among, found, Coding, canon, listed, plain, coding, checkSymbols}
 use Rattle.alphabet.specs.Bases.{base}
 use Rattle.alphabet.proofs.Pairs.{found-none, found-among, found-back, found-fits, among-byte, symbols-apart, codes-apart}
 
@@ -123,7 +124,12 @@ pub record Plain (A : Coding) : Type 0 where
 
 listed-packed : (b : ℕ) (pairs : List (List ℕ)) (other : ℕ) → b ≤ 5 → T (checkSymbols b pairs) → Packed (listed b pairs other)
 unfolding listed
-listed-packed b pairs other five t = record { five = five; none = λ v m. found-none symbolOf codeOf 0xff pairs (canon v) m; told = λ v. go (canon v) (among (map symbolOf pairs) (canon v)) refl }
+listed-packed b pairs other five t =
+    record {
+      five = five;
+      none = λ v m. found-none symbolOf codeOf 0xff pairs (canon v) m;
+      told = λ v. go (canon v) (among (map symbolOf pairs) (canon v)) refl;
+    }
   where
     go : (x : ℕ) (m : Bool) → among (map symbolOf pairs) x ≡ m → m ≡ not (eqb (found symbolOf codeOf 0xff pairs x) 0xff)
     go x true e =
@@ -225,7 +231,8 @@ pub dna2bit-codes : (v : ℕ) → coding Dna2bit .member v ≡ true → Ucsc v
 unfolding coding listed canon among found dna2bit coded bytesOf
 dna2bit-codes v m = go (eqb v (ascii "T")) refl (eqb v (ascii "C")) refl (eqb v (ascii "A")) refl (eqb v (ascii "G")) refl m
   where
-    go : (t : Bool) → eqb v (ascii "T") ≡ t → (c : Bool) → eqb v (ascii "C") ≡ c → (a : Bool) → eqb v (ascii "A") ≡ a → (g : Bool) → eqb v (ascii "G") ≡ g → (t || (c || (a || (g || false)))) ≡ true → Ucsc v
+    go : (t : Bool) → eqb v (ascii "T") ≡ t → (c : Bool) → eqb v (ascii "C") ≡ c → (a : Bool) → eqb v (ascii "A") ≡ a → (g : Bool) → eqb v (ascii "G") ≡ g
+        → (t || (c || (a || (g || false)))) ≡ true → Ucsc v
     go true p c q a r g s e = let h : v ≡ ascii "T" = eqb-true v (ascii "T") p in is-t h (ap (coding Dna2bit .code) h)
     go false p true q a r g s e = let h : v ≡ ascii "C" = eqb-true v (ascii "C") q in is-c h (ap (coding Dna2bit .code) h)
     go false p false q true r g s e = let h : v ≡ ascii "A" = eqb-true v (ascii "A") r in is-a h (ap (coding Dna2bit .code) h)

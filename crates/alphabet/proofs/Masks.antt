@@ -155,7 +155,8 @@ lowest-lt false false false false = lit< tt
 pub zeros-lt : (m : ℕ) → 16 ≤ m → m ≤ 31 → trailingZeros 8 m < 5
 zeros-lt m h l = rw (zeros-lowest m h l) (lowest-lt (isSet 0 m) (isSet 1 m) (isSet 2 m) (isSet 3 m))
 
-picked : (a b c d : Bool) → getD order (cond a 0 (cond b 1 (cond c 2 (cond d 3 4)))) Unknown ≡ cond a Dna2bit (cond b Dna3bit (cond c DnaIupac (cond d Protein (cond true Ascii Unknown))))
+picked : (a b c d : Bool)
+    → getD order (cond a 0 (cond b 1 (cond c 2 (cond d 3 4)))) Unknown ≡ cond a Dna2bit (cond b Dna3bit (cond c DnaIupac (cond d Protein (cond true Ascii Unknown))))
 picked true b c d = refl
 picked false true c d = refl
 picked false false true d = refl
@@ -182,7 +183,8 @@ unfolding firstHolding
 first-holds [] text i e h = absurd (not-suc-le-zero h)
 first-holds (k ∷ ks) text i e h = go (holdsAll k text) refl i e h (λ j q l. first-holds ks text j q l)
   where
-    go : (b : Bool) → holdsAll k text ≡ b → (j : ℕ) → holdsAll (getD (k ∷ ks) j Unknown) text ≡ true → j < length (k ∷ ks) → ((n : ℕ) → holdsAll (getD ks n Unknown) text ≡ true → n < length ks → holdsAll (firstHolding ks text) text ≡ true)
+    go : (b : Bool) → holdsAll k text ≡ b → (j : ℕ) → holdsAll (getD (k ∷ ks) j Unknown) text ≡ true → j < length (k ∷ ks)
+        → ((n : ℕ) → holdsAll (getD ks n Unknown) text ≡ true → n < length ks → holdsAll (firstHolding ks text) text ≡ true)
         → holdsAll (cond b k (firstHolding ks text)) text ≡ true
     go true q j m l ih = q
     go false q zero m l ih = absurd (true≢false (sym m ∙ q))

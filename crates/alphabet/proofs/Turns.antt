@@ -28,7 +28,8 @@ module _ (n none : ℕ) (key value : List ℕ → ℕ) (pairs : List (List ℕ))
   Filled i table = table ≡ tabulate n (found key value none (drop i pairs))
 
   -- the pair before i is stored, at its key k
-  pub fill-more : (table : List ℕ) (i k : ℕ) → 0 < i → i ≤ length pairs → k ≡ key (getD pairs (i - 1) []) → Filled i table → Filled (i - 1) (set table k (value (getD pairs (i - 1) [])))
+  pub fill-more : (table : List ℕ) (i k : ℕ) → 0 < i → i ≤ length pairs → k ≡ key (getD pairs (i - 1) []) → Filled i table
+      → Filled (i - 1) (set table k (value (getD pairs (i - 1) [])))
   unfolding found
   fill-more table i k some h q e =
       let p : List ℕ = getD pairs (i - 1) [] in

@@ -6,8 +6,10 @@ use crate::mask::alphabet_mask;
 use crate::refusal::Refusal;
 use bits::place;
 ghost use mathlib.Core.Path.{_≡_};
-ghost use Prim.Native.Nat.{_≤_};
-ghost use Rattle.alphabet.specs.Guess.{freshGuesser, soundGuesser, masked, guesserUpdateAt, guessAt, guessOf};
+ghost use Prim.Native.Nat.{_+_, _≤_, _<_};
+ghost use lib.ListN.{length, drop};
+ghost use Rattle.bits.specs.Tables.{tabulate};
+ghost use Rattle.alphabet.specs.Guess.{freshGuesser, soundGuesser, maskOf, masked, guesserUpdateAt, guessAt, guessOf};
 ghost use Rattle.alphabet.specs.Answers.{guesserUpdatedReply, guesserUpdateTold, guessedReply, guessTold};
 
 // The mask while every alphabet is possible.
@@ -77,8 +79,56 @@ impl AlphabetGuesser {
             return Guessed::Refused(Refusal::Unsound, self);
         }
         let i = u8::trailing_zeros(self.acc) as usize;
-        Guessed::Kind(ALPHABET_ORDER[i])
+        let kind = ALPHABET_ORDER[i];
+        Guessed::Kind(kind)
     }
+}
+
+// A mask once those of eight bytes, from byte i on, are ANDed to it.
+fn after_eight(masks: &[u8; 256], acc: u8, text: &[u8], i: usize) -> u8
+    requires { ⌜ (now masks ≡ tabulate 256 maskOf) × (i + 8 ≤ length (now text)) ⌝ }
+    ensures { λ r. ⌜ masked r (drop (i + 8) (now (text .entry))) ≡ masked acc (drop i (now (text .entry))) ⌝ }
+{
+    let mut m = acc;
+    for j in 0..8 {
+        m = m & masks[place(text[i + j])];
+    }
+    m
+}
+
+// Passes bytes that leave a mask as it is, eight at a time, and stops no later than `end`.
+fn pass_eights(masks: &[u8; 256], acc: u8, text: &[u8], start: usize, end: usize) -> usize
+    requires { ⌜ (now masks ≡ tabulate 256 maskOf) × ((start ≤ end) × (end ≤ length (now text))) ⌝ }
+    ensures { λ r. ⌜ ((start ≤ r) × (r ≤ end)) × (masked acc (drop r (now (text .entry))) ≡ masked acc (drop start (now (text .entry)))) ⌝ }
+{
+    let mut i = start;
+    while 8 <= end - i {
+        if after_eight(masks, acc, text, i) != acc {
+            return i;
+        }
+        i += 8;
+    }
+    i
+}
+
+// The same, where bases are passed first, 64 at a time: they leave every mask as it is.
+fn pass_alike(masks: &[u8; 256], acc: u8, text: &[u8], start: usize, end: usize) -> usize
+    requires { ⌜ ((now masks ≡ tabulate 256 maskOf) × ((start ≤ end) × (end ≤ length (now text)))) × (acc ≤ 31) ⌝ }
+    ensures { λ r. ⌜ ((start ≤ r) × (r ≤ end)) × (masked acc (drop r (now (text .entry))) ≡ masked acc (drop start (now (text .entry)))) ⌝ }
+{
+    let bases = pass_bases(text, start, end);
+    pass_eights(masks, acc, text, bases, end)
+}
+
+// Where the chunk that starts at `at` ends.
+fn chunk_end(at: usize, len: usize) -> usize
+    requires { ⌜ at < len ⌝ }
+    ensures { λ r. ⌜ (at < r) × (r ≤ len) ⌝ }
+{
+    if GUESS_CHUNK < len - at {
+        return at + GUESS_CHUNK;
+    }
+    len
 }
 
 // A sound mask once each byte's mask is ANDed to it, up to the byte after which only Ascii remains: no later one changes it.
@@ -90,12 +140,8 @@ fn scan(mask: u8, sequence: &[u8]) -> u8
     let mut acc = mask;
     let mut at = 0;
     'scan: while at < sequence.len() {
-        let mut end = sequence.len();
-        if GUESS_CHUNK < end - at {
-            end = at + GUESS_CHUNK;
-        }
-        // bases leave every mask as it is
-        let start = pass_bases(sequence, at, end);
+        let end = chunk_end(at, sequence.len());
+        let start = pass_alike(&masks, acc, sequence, at, end);
         for i in start..end {
             acc = acc & masks[place(sequence[i])];
             if acc == ASCII_BIT {

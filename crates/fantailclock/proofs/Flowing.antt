@@ -12,7 +12,7 @@ use Rattle.alphabet.specs.declared.kind.Named.{Named}
 use Rattle.alphabet.specs.declared.refusal.Refusal.{Refusal}
 use Rattle.alphabet.specs.Questions.{ask_else_then_, refusalReply, numberIn}
 use Rattle.alphabet.specs.Names.{known, kindOf, namedAt}
-use Rattle.alphabet.proofs.Calls.{named-kind, named-refused}
+use Rattle.alphabet.proofs.Calls.{is-refused, named-kind, named-refused}
 use Rattle.windows.specs.declared.read.Read.{Read}
 use Rattle.windows.specs.Answers.{readReply}
 use Rattle.streaming.specs.declared.decoder.Status.{Status}
@@ -31,7 +31,6 @@ use Rattle.fantailclock.specs.declared.shapes.StreamStarted.{StreamStart
 use Rattle.fantailclock.specs.declared.shapes.Streamed.{Streamed}
 use Rattle.fantailclock.specs.Shapes.{count, packed, ended}
 use Rattle.fantailclock.specs.Streams.{inside, outside, stateOf, streamStarted, streamedBy, streamedFrom, streamed, memoryFrom, streamedMemory, endFrom, endTold}
-use Rattle.fantailclock.proofs.Told.{is-refused}
 
 -- ---- reads
 

@@ -12,7 +12,7 @@ use Rattle.alphabet.specs.declared.kind.Named.{Named}
 use Rattle.alphabet.specs.declared.refusal.Refusal.{Refusal}
 use Rattle.alphabet.specs.Questions.{ask_else_then_, Reply, accepted, refused, refusalReply, numberIn}
 use Rattle.alphabet.specs.Names.{numberOf, known, kindOf, namedAt}
-use Rattle.alphabet.proofs.Calls.{named-kind, named-refused}
+use Rattle.alphabet.proofs.Calls.{is-refused, named-kind, named-refused}
 use Rattle.packing.specs.declared.first.First.{First}
 use Rattle.packing.specs.declared.encoder.SequenceEncoder.{SequenceEncoder}
 use Rattle.packing.specs.declared.encoder.EncoderStarted.{EncoderStarted as Start}
@@ -29,7 +29,6 @@ use Rattle.fantailclock.specs.declared.shapes.Updated.{Updated}
 use Rattle.fantailclock.specs.declared.shapes.Packed.{Packed}
 use Rattle.fantailclock.specs.Shapes.{range, packed}
 use Rattle.fantailclock.specs.Encoders.{inside, fitting, outsideWith, outside, encoderStarted, stateOf, updatedBy, updatedFrom, encoderUpdated, updateMemoryFrom, encoderUpdateMemory, finalizeFrom, finalizeTold, finalizeMemoryFrom, encoderFinalizeMemory}
-use Rattle.fantailclock.proofs.Told.{is-refused}
 
 -- ---- byte ranges and whole texts
 

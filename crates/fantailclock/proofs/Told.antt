@@ -18,35 +18,17 @@ use Rattle.alphabet.specs.declared.kind.AlphabetType.{AlphabetType}
 use Rattle.alphabet.specs.declared.kind.Name.{Name}
 use Rattle.alphabet.specs.declared.kind.Named.{Named}
 use Rattle.alphabet.specs.declared.refusal.Refusal.{Refusal}
-use Rattle.alphabet.specs.declared.refusal.Refusal.the-variants.{Unsound, TooFar, Uncovered, ShortMemory, NonMember, BadSkip, Outstanding, NoAlphabet, TooWide}
 use Rattle.alphabet.specs.declared.guesser.AlphabetGuesser.{AlphabetGuesser}
 use Rattle.alphabet.specs.declared.guesser.GuesserUpdated.{GuesserUpdated}
 use Rattle.alphabet.specs.declared.guesser.Guessed.{Guessed}
 use Rattle.alphabet.proofs.Laws.{lawful}
-use Rattle.alphabet.proofs.Calls.{spelt, named-kind, named-refused, sound-range}
+use Rattle.alphabet.proofs.Calls.{is-refused, spelt, named-kind, named-refused, sound-range}
 use Rattle.fantailclock.specs.declared.shapes.Number.{Number}
 use Rattle.fantailclock.specs.declared.shapes.Count.{Count}
 use Rattle.fantailclock.specs.declared.shapes.Guesser.{Guesser}
 use Rattle.fantailclock.specs.declared.shapes.Guessing.{Guessing}
 use Rattle.fantailclock.specs.Shapes.{number, count, guesser, guessing}
 use Rattle.fantailclock.specs.Kinds.{bitsTold, containsTold, nameTold, nameMemory, guessedTold}
-
--- ---- a refusal
-
-abbrev details : Reply → List ℕ
-details (accepted values) = []
-details (refused n values) = values
-
-pub is-refused : (q : Refusal) → refusalReply q ≡ refused (numberIn (refusalReply q)) (details (refusalReply q))
-is-refused Unsound = refl
-is-refused TooFar = refl
-is-refused Uncovered = refl
-is-refused ShortMemory = refl
-is-refused (NonMember position byte) = refl
-is-refused BadSkip = refl
-is-refused (Outstanding bases) = refl
-is-refused NoAlphabet = refl
-is-refused TooWide = refl
 
 -- ---- calls on alphabets
 
@@ -74,20 +56,20 @@ module _ (n : ℕ) where
   -- a name that the memory cannot hold, and one that it can
   pub name-short : (k : AlphabetType) (name : Name) (memory : List ℕ) → namedAt n ≡ Named.Kind k → name ≡ nameOf k → length memory < name .len
       → (record { refusal = 4; count = 0 } ≡ count (nameTold n (length memory))) × (memory ≡ nameMemory n memory)
-  unfolding nameTold nameMemory nameOf
+  unfolding nameTold nameMemory
   name-short k name memory e q h =
       let s = named-kind n k e in
-      let no : leb (length (displayName k)) (length memory) ≡ false = lt-leb (length (displayName k)) (length memory) (rw q at h) in
+      let no : leb (length (displayName k)) (length memory) ≡ false = lt-leb (length (displayName k)) (length memory) (rw (q, spelt k .counted) at h) in
       (rw (s .0, s .1, no), rw (s .0, s .1, no))
 
   pub name-fits : (k : AlphabetType) (name : Name) (memory out : List ℕ) → namedAt n ≡ Named.Kind k → name ≡ nameOf k → name .len ≤ length memory → out ≡ front (take (name .len) (name .bytes)) memory
       → (record { refusal = 0; count = name .len } ≡ count (nameTold n (length memory))) × (out ≡ nameMemory n memory)
-  unfolding nameTold nameMemory nameOf
+  unfolding nameTold nameMemory
   name-fits k name memory out e q h p =
       let s = named-kind n k e in
-      let yes′ : leb (length (displayName k)) (length memory) ≡ true = le-leb (length (displayName k)) (length memory) (rw q at h) in
+      let yes′ : leb (length (displayName k)) (length memory) ≡ true = le-leb (length (displayName k)) (length memory) (rw (q, spelt k .counted) at h) in
       let text : take (name .len) (name .bytes) ≡ displayName k = rw q (spelt k .front) in
-      (rw (s .0, s .1, yes′) (ap (λ (x : Name). record { refusal = 0; count = x .len }) q), rw (s .0, s .1, yes′) (p ∙ ap (λ (t : List ℕ). front t memory) text))
+      (rw (s .0, s .1, yes′, q, spelt k .counted), rw (s .0, s .1, yes′) (p ∙ ap (λ (t : List ℕ). front t memory) text))
 
   -- a number that names no alphabet
   pub bits-refused : (q : Refusal) (m : ℕ) → namedAt n ≡ Named.Refused q → m ≡ numberIn (refusalReply q) → record { refusal = m; value = 0 } ≡ number (bitsTold n)

@@ -6,11 +6,12 @@ use Prim.Native.String.{String}
 use mathlib.Core.Path.{_≡_}
 use mathlib.Core.List.{List, [], _∷_, map}
 use lib.ListN.{length, replicate}
+use Rattle.bits.specs.Tables.{bytesOf}
 use Rattle.bits.specs.Memory.{front}
 use Rattle.alphabet.specs.declared.kind.AlphabetType.{AlphabetType}
 use Rattle.alphabet.specs.declared.kind.AlphabetType.the-variants.{Dna2bit, Dna3bit, DnaIupac, Protein, Ascii, Unknown}
 use Rattle.alphabet.specs.Questions.{Reply, accepted, refused, refusalReply}
-use Rattle.alphabet.specs.Symbols.{bytesOf, coding}
+use Rattle.alphabet.specs.Symbols.{coding}
 use Rattle.alphabet.specs.Names.{displayName, numberOf, kindOf, namedAt}
 use Rattle.alphabet.specs.Guess.{guessOf, guessAt}
 use Rattle.alphabet.specs.Answers.{namedReply, guessedReply}

@@ -47,7 +47,9 @@ loop-again c =
     let here : a .start + (o .i - a .start) ≡ o .i = omega arith in
     let there : (o .i - a .start) + 64 ≡ (o .i + 64) - a .start = omega arith in
     let more : Bases (a .text .now) (o .i) 64 = c .before .are-bases .ensures (not-false (c .before .are-bases .result) (c .if3 .left)) in
-    (omega arith, omega (arith, h .loop-test .taken), o .inv .2, subst (λ (n : ℕ). Bases (a .text .now) (a .start) n) there (bases-more (a .text .now) (a .start) (o .i - a .start) 64 (o .inv .3) (subst (λ (n : ℕ). Bases (a .text .now) n 64) (sym here) more)))
+    let from-here : Bases (a .text .now) (a .start + (o .i - a .start)) 64 = subst (λ (n : ℕ). Bases (a .text .now) n 64) (sym here) more in
+    let all : Bases (a .text .now) (a .start) ((o .i - a .start) + 64) = bases-more (a .text .now) (a .start) (o .i - a .start) 64 (o .inv .3) from-here in
+    (omega arith, omega (arith, h .loop-test .taken), o .inv .2, subst (λ (n : ℕ). Bases (a .text .now) (a .start) n) there all)
 
 returns-4 : tie.Need-returns-4 Inv-loop μ-loop
 returns-4 c = let v = c .before .loop .inv in record { from = v .0; until = λ h. v .1; bases = v .3 }

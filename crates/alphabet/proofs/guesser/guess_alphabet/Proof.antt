@@ -1,5 +1,8 @@
 use mathlib.Core.Path.{_≡_}
+use mathlib.Core.List.{List}
+use Prim.Native.Nat.{ℕ}
 use borrow.Author.Needs.{needs}
+use Rattle.bits.specs.Tables.{Bytes}
 use Rattle.alphabet.specs.declared.guesser.GuesserUpdated.the-variants.{Next}
 use Rattle.alphabet.specs.declared.guesser.Guessed.the-variants.{Kind}
 use Rattle.alphabet.specs.Guess.{guessOf}
@@ -7,17 +10,26 @@ use Rattle.alphabet.proofs.Calls.{after-text, fresh-update, fresh-guess
 use Rattle.alphabet.proofs.guesser.guess_alphabet.Statement.{statement}
 use Rattle.alphabet.proofs.guesser.guess_alphabet.Tie as tie
 
+-- the text, from the place after `update`, and that it is one of bytes
+abbrev text : tie.After-update → List ℕ
+text c = c .before .before .before .args .sequence .now
+
+bytes : (c : tie.After-update) → Bytes (text c)
+bytes c i = c .before .before .shared-slice-known .given i .fits
+
 -- what the update answered
-updated : (c : tie.After-update) → c .update .result ≡ Next (after-text (c .before .before .before .args .sequence .now) (λ i. c .before .before .shared-slice-known .given i .fits))
-updated c =
-    fresh-update (c .before .before .before .args .sequence .now) (λ i. c .before .before .shared-slice-known .given i .fits) (c .update .result) (c .before .new .result) (c .before .new .ensures) (c .update .ensures .0)
+updated : (c : tie.After-update) → c .update .result ≡ Next (after-text (text c) (bytes c))
+updated c = fresh-update (text c) (bytes c) (c .update .result) (c .before .new .result) (c .before .new .ensures) (c .update .ensures .0)
+
+-- the place after `update`, from the one after `guess`
+abbrev update : tie.After-guess → tie.After-update
+update c = c .before .before .before .before
 
 -- and what the guess answered
-guessed : (c : tie.After-guess) → c .guess .result ≡ Kind (guessOf (c .before .before .before .before .before .before .before .args .sequence .now))
+guessed : (c : tie.After-guess) → c .guess .result ≡ Kind (guessOf (text (update c)))
 guessed c =
-    let u = c .before .before .before .before in
-    let k = u .before .before in
-    fresh-guess (k .before .args .sequence .now) (λ i. k .shared-slice-known .given i .fits) (c .guess .result) _ (next-same (c .before .before .next .given .1) (updated u)) (c .guess .ensures .0)
+    let u = update c in
+    fresh-guess (text u) (bytes u) (c .guess .result) _ (next-same (c .before .before .next .given .1) (updated u)) (c .guess .ensures .0)
 
 new-requires : tie.Need-new-requires
 new-requires c κs = search needs

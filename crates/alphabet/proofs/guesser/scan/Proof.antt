@@ -1,79 +1,84 @@
 use mathlib.Core.Path.{_≡_, refl, ap, _∙_}
-use mathlib.Core.Logic.{⊎-elim}
 use mathlib.Core.List.{List}
 use Prim.Native.Nat.{ℕ, _+_, _≤_, _<_, _-_}
 use native.Mathlib.Omega.{arith}
 use borrow.Author.Needs.{needs}
 use lib.Bits.{bitAnd, and-le-l}
 use lib.ListN.{length, drop}
-use Rattle.bits.specs.Tables.{at}
-use Rattle.alphabet.specs.Guess.{masked}
+use Rattle.bits.specs.Tables.{at, tabulate}
+use Rattle.alphabet.specs.Guess.{maskOf, masked}
 use Rattle.alphabet.proofs.Turns.{scan-more, scan-done, scan-break}
-use Rattle.alphabet.proofs.Runs.{masked-run}
 use Rattle.alphabet.proofs.guesser.scan.Statement.{statement}
 use Rattle.alphabet.proofs.guesser.scan.Tie as tie
 
+-- a mask that gives with the bytes from place i on what the whole text gives
+abbrev Left : (mask : ℕ) (text masks : List ℕ) (acc i : ℕ) → Type 0
+Left mask text masks acc i = (masks ≡ tabulate 256 maskOf) × (acc ≤ 31) × (masked acc (drop i text) ≡ masked mask text)
+
 abbrev Inv-loop : tie.InvT-loop
-Inv-loop mask sequence masks acc₀ at end start i₀ acc i =
-    (at < end) × (i ≤ end) × (end ≤ length sequence) × (masked acc (drop i sequence) ≡ masked mask sequence) × (acc ≤ 31)
+Inv-loop mask sequence masks acc₀ from end start i₀ acc i = (from < end) × (i ≤ end) × (end ≤ length sequence) × Left mask sequence masks acc i
 
 abbrev μ-loop : tie.MeasureT-loop
-μ-loop mask sequence masks acc₀ at end start i₀ acc i = end - i
+μ-loop mask sequence masks acc₀ from end start i₀ acc i = end - i
 
 abbrev Inv-scan : tie.InvT-scan
-Inv-scan mask sequence masks acc₀ at₀ acc at =
-    (at ≤ length sequence) × (masked acc (drop at sequence) ≡ masked mask sequence) × (acc ≤ 31)
+Inv-scan mask sequence masks acc₀ from₀ acc from = (from ≤ length sequence) × Left mask sequence masks acc from
 
 abbrev μ-scan : tie.MeasureT-scan
-μ-scan mask sequence masks acc₀ at₀ acc at = length sequence - at
+μ-scan mask sequence masks acc₀ from₀ acc from = length sequence - from
 
--- the place after a byte was read, and what leads to it: the loop's head, the scan's head, the masks, the entry
-abbrev At : Type 0
-At = tie.After-place Inv-loop μ-loop Inv-scan μ-scan
+-- the place after a byte was read, and what leads to it: the inner loop's head, the outer loop's, the entry
+abbrev Read : Type 0
+Read = tie.After-place Inv-loop μ-loop Inv-scan μ-scan
 
-abbrev start : (c : At) → tie.Start Inv-loop μ-loop Inv-scan μ-scan
-start c = c .before .before .before .before .before .before .before .before .before .before
+abbrev head : Read → tie.At-loop Inv-loop μ-loop Inv-scan μ-scan
+head c = c .before .before .before
 
-abbrev text : At → List ℕ
-text c = start c .args .sequence .now
+abbrev chunk : Read → tie.At-scan Inv-loop μ-loop Inv-scan μ-scan
+chunk c = head c .before .before .before .before .before
 
-abbrev masks : At → List ℕ
-masks c = c .before .before .before .before .before .before .before .before .alphabet-mask .result
+abbrev entry : Read → tie.Start Inv-loop μ-loop Inv-scan μ-scan
+entry c = chunk c .before .before .before
+
+abbrev text : Read → List ℕ
+text c = entry c .args .sequence .now
+
+abbrev masks : Read → List ℕ
+masks c = chunk c .before .alphabet-mask .result
 
 -- the mask after that byte
-abbrev next : At → ℕ
-next c = bitAnd (c .before .before .before .loop .acc) (at (masks c) (c .place .result))
+abbrev next : Read → ℕ
+next c = bitAnd (head c .loop .acc) (at (masks c) (c .place .result))
 
--- with what is left of the text it gives what the whole text gives
-turn : (c : At) → masked (next c) (drop (c .before .before .before .loop .i + 1) (text c)) ≡ masked (start c .args .mask) (text c)
+turn : (c : Read) → Left (entry c .args .mask) (text c) (masks c) (next c) (head c .loop .i + 1)
 turn c =
-    let l = c .before .before .before .loop in
-    scan-more (masks c) (text c) (l .acc) (l .i) (c .place .result) (c .before .before .before .before .before .before .before .before .alphabet-mask .ensures) (c .place .ensures .0) (c .place .ensures .1) (omega arith) (l .inv .3)
+    let l = head c .loop in
+    let left = l .inv .3 in
+    let v = c .place in
+    let less : next c ≤ l .acc = and-le-l (l .acc) (at (masks c) (v .result)) in
+    (left .0, omega (arith, left .1, less), scan-more (masks c) (text c) (l .acc) (l .i) (v .result) (left .0) (v .ensures .0) (v .ensures .1) (omega arith) (left .2))
 
 alphabet-mask-requires : tie.Need-alphabet-mask-requires Inv-loop μ-loop Inv-scan μ-scan
 alphabet-mask-requires c κs = search needs
 
 scan-holds : tie.Need-scan-holds Inv-loop μ-loop Inv-scan μ-scan
-scan-holds c = (search needs, refl, c .before .before .pre .1)
+scan-holds c = (search needs, (c .alphabet-mask .ensures, c .before .before .pre .1, refl))
 
-sub-if1 : tie.Need-sub-if1 Inv-loop μ-loop Inv-scan μ-scan
-sub-if1 c = search needs
+chunk-end-requires : tie.Need-chunk-end-requires Inv-loop μ-loop Inv-scan μ-scan
+chunk-end-requires c κs = search needs
 
-add-end : tie.Need-add-end Inv-loop μ-loop Inv-scan μ-scan
-add-end c = search needs
-
-pass-bases-requires : tie.Need-pass-bases-requires Inv-loop μ-loop Inv-scan μ-scan
-pass-bases-requires c κs = search needs
+pass-alike-requires : tie.Need-pass-alike-requires Inv-loop μ-loop Inv-scan μ-scan
+pass-alike-requires c κs =
+    let left = c .before .before .before .scan .inv .1 in
+    let e = c .before .chunk-end .ensures in
+    ((left .0, (omega (arith, e .0), e .1)), left .1)
 
 loop-holds : tie.Need-loop-holds Inv-loop μ-loop Inv-scan μ-scan
 loop-holds c =
-    let p = c .before in
-    let s = p .before .before .scan in
-    let text : List ℕ = p .before .before .before .before .before .args .sequence .now in
-    let run = c .pass-bases .ensures in
-    let less : s .at < p .if1 .end = ⊎-elim (λ w. omega arith) (λ w. omega arith) (p .if1 .came) in
-    let most : p .if1 .end ≤ length text = ⊎-elim (λ w. omega arith) (λ w. omega arith) (p .if1 .came) in
-    (less, run .until (omega (arith, less)), most, masked-run (s .acc) text (s .at) (p .if1 .end) (c .pass-bases .result) (s .inv .2) (omega (arith, less)) most run (s .inv .1), s .inv .2)
+    let left = c .before .before .before .before .scan .inv .1 in
+    let e = c .before .before .chunk-end .ensures in
+    let p = c .pass-alike .ensures in
+    (e .0, p .0 .1, e .1, (left .0, left .1, p .1 ∙ left .2))
 
 shared-slice-read-place : tie.Need-shared-slice-read-place Inv-loop μ-loop Inv-scan μ-scan
 shared-slice-read-place c = search needs
@@ -91,7 +96,7 @@ loop-less : tie.Need-loop-less Inv-loop μ-loop Inv-scan μ-scan
 loop-less c = search needs
 
 loop-again : tie.Need-loop-again Inv-loop μ-loop Inv-scan μ-scan
-loop-again c = let l = c .before .before .before .before .loop in (search needs, search needs, search needs, turn (c .before), omega (arith, l .inv .4, and-le-l (l .acc) (at (masks (c .before)) (c .before .place .result))))
+loop-again c = (search needs, search needs, search needs, turn (c .before))
 
 scan-less : tie.Need-scan-less Inv-loop μ-loop Inv-scan μ-scan
 scan-less c = omega arith
@@ -99,16 +104,21 @@ scan-less c = omega arith
 scan-again : tie.Need-scan-again Inv-loop μ-loop Inv-scan μ-scan
 scan-again c =
     let l = c .before .loop in
-    let e : c .before .before .before .if1 .end ≡ l .i = omega arith in
-    (search needs, ap (λ (n : ℕ). masked (l .acc) (drop n (c .before .before .before .before .before .before .before .before .args .sequence .now))) e ∙ l .inv .3, l .inv .4)
+    let left = l .inv .3 in
+    let k = c .before .before .before .before in
+    let a = k .before .before .before .before .before .args in
+    let whole : k .chunk-end .result ≡ l .i = omega arith in
+    (l .inv .2, (left .0, left .1, ap (λ (n : ℕ). masked (l .acc) (drop n (a .sequence .now))) whole ∙ left .2))
 
 returns : tie.Need-returns Inv-loop μ-loop Inv-scan μ-scan
-returns c = scan-done (c .before .before .before .before .args .sequence .now) (c .before .scan .acc) (c .before .scan .at) (omega arith) (c .before .scan .inv .1)
+returns c =
+    let o = c .before .scan in
+    scan-done (c .before .before .before .before .args .sequence .now) (o .acc) (o .at) (omega arith) (o .inv .1 .2)
 
 returns-2 : tie.Need-returns-2 Inv-loop μ-loop Inv-scan μ-scan
 returns-2 c =
-    let p = c .before in
-    scan-break (text p) (next p) (p .before .before .before .loop .i + 1) (λ i. p .before .shared-slice-known2 .given i .fits) (c .if2 .taken) (turn p)
+    let r = c .before in
+    scan-break (text r) (next r) (head r .loop .i + 1) (λ i. r .before .shared-slice-known2 .given i .fits) (c .if1 .taken) (turn r .2)
 
 pub scan-spec : {M : Type 1} → statement M
 scan-spec =
@@ -120,9 +130,8 @@ scan-spec =
     μ-scan
     alphabet-mask-requires
     scan-holds
-    sub-if1
-    add-end
-    pass-bases-requires
+    chunk-end-requires
+    pass-alike-requires
     loop-holds
     shared-slice-read-place
     place-requires
