@@ -9,7 +9,7 @@ use lib.Dec.{leb}
 use lib.ListN.{length, take, drop}
 use lib.Seq.{length-take-le}
 use Rattle.bits.specs.Memory.{front}
-use Rattle.alphabet.specs.Questions.{Reply, accepted, refused, refusalReply, by, numberIn}
+use Rattle.alphabet.specs.Questions.{Reply, accepted, refused, refusalReply, by, numberIn, valueIn}
 use Rattle.alphabet.specs.Symbols.{coding}
 use Rattle.alphabet.specs.Names.{displayName, nameOf, numberOf, known, kindOf, numbered, namedAt}
 use Rattle.alphabet.specs.Guess.{guessOf, soundGuesser, guessAt}
@@ -33,11 +33,11 @@ use Rattle.fantailclock.specs.Kinds.{bitsTold, containsTold, nameTold, n
 
 -- ---- a refusal
 
-abbrev details : Reply → List ℕ
-details (accepted values) = []
-details (refused n values) = values
+abbrev valuesIn : Reply → List ℕ
+valuesIn (accepted values) = []
+valuesIn (refused n values) = values
 
-pub is-refused : (q : Refusal) → refusalReply q ≡ refused (numberIn (refusalReply q)) (details (refusalReply q))
+pub is-refused : (q : Refusal) → refusalReply q ≡ refused (numberIn (refusalReply q)) (valuesIn (refusalReply q))
 is-refused Unsound = refl
 is-refused TooFar = refl
 is-refused Uncovered = refl
@@ -48,6 +48,9 @@ is-refused (Outstanding bases) = refl
 is-refused NoAlphabet = refl
 is-refused TooWide = refl
 
+pub no-value : (q : Refusal) → 0 ≡ valueIn 0 (refusalReply q)
+no-value q = sym (ap (valueIn 0) (is-refused q))
+
 -- ---- calls on alphabets
 
 module _ (n : ℕ) where
@@ -57,7 +60,8 @@ module _ (n : ℕ) where
       let s = named-kind n k e in
       rw (s .0, s .1) (ap (λ (x : ℕ). record { refusal = 0; value = x }) q)
 
-  pub contains-known : (k : AlphabetType) (v : ℕ) (b : Bool) → namedAt n ≡ Named.Kind k → b ≡ coding k .member v → record { refusal = 0; value = cond b 1 0 } ≡ number (containsTold n v)
+  pub contains-known : (k : AlphabetType) (v : ℕ) (b : Bool) → namedAt n ≡ Named.Kind k → b ≡ coding k .member v
+      → record { refusal = 0; value = cond b 1 0 } ≡ number (containsTold n v)
   unfolding containsTold
   contains-known k v b e q =
       let s = named-kind n k e in
@@ -80,7 +84,8 @@ module _ (n : ℕ) where
       let no : leb (length (displayName k)) (length memory) ≡ false = lt-leb (length (displayName k)) (length memory) (rw q at h) in
       (rw (s .0, s .1, no), rw (s .0, s .1, no))
 
-  pub name-fits : (k : AlphabetType) (name : Name) (memory out : List ℕ) → namedAt n ≡ Named.Kind k → name ≡ nameOf k → name .len ≤ length memory → out ≡ front (take (name .len) (name .bytes)) memory
+  pub name-fits : (k : AlphabetType) (name : Name) (memory out : List ℕ) → namedAt n ≡ Named.Kind k → name ≡ nameOf k → name .len ≤ length memory
+      → out ≡ front (take (name .len) (name .bytes)) memory
       → (record { refusal = 0; count = name .len } ≡ count (nameTold n (length memory))) × (out ≡ nameMemory n memory)
   unfolding nameTold nameMemory nameOf
   name-fits k name memory out e q h p =
@@ -126,10 +131,12 @@ pub guess-big : (state : Guesser) → 255 < state .mask → record { refusal = 1
 guess-big state h = rw (big-unsound (guesser state) h)
 
 module _ (state : Guesser) (reply : Reply) where
-  pub update-next : (u : GuesserUpdated) (g : AlphabetGuesser) → u ≡ GuesserUpdated.Next g → guesserUpdatedReply u ≡ reply → record { refusal = 0; next = record { mask = g .acc } } ≡ guessing state reply
+  pub update-next : (u : GuesserUpdated) (g : AlphabetGuesser) → u ≡ GuesserUpdated.Next g → guesserUpdatedReply u ≡ reply
+      → record { refusal = 0; next = record { mask = g .acc } } ≡ guessing state reply
   update-next u g e f = ap (guessing state) (sym (ap guesserUpdatedReply e) ∙ f)
 
-  pub update-refused : (u : GuesserUpdated) (q : Refusal) (g : AlphabetGuesser) (m : ℕ) → u ≡ GuesserUpdated.Refused q g → guesserUpdatedReply u ≡ reply → m ≡ numberIn (refusalReply q)
+  pub update-refused : (u : GuesserUpdated) (q : Refusal) (g : AlphabetGuesser) (m : ℕ) → u ≡ GuesserUpdated.Refused q g → guesserUpdatedReply u ≡ reply
+      → m ≡ numberIn (refusalReply q)
       → record { refusal = m; next = state } ≡ guessing state reply
   update-refused u q g m e f h =
       ap (λ (x : ℕ). record { refusal = x; next = state }) h ∙ ap (guessing state) (sym (is-refused q) ∙ sym (ap guesserUpdatedReply e) ∙ f)
