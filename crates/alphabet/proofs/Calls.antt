@@ -1,17 +1,20 @@
 -- The laws of the calls: what an answer tells by number, and the guesser's calls one after another.
-use mathlib.Core.Path.{_≡_, refl, sym, ap, _∙_, subst}
-use mathlib.Core.Bool.{Bool, true, false, _&&_, true≢false}
+use mathlib.Core.Path.{_≡_, refl, sym, ap, ap₂, _∙_, subst}
+use mathlib.Core.Bool.{Bool, true, false, cond, _&&_, true≢false}
 use mathlib.Core.List.{List, [], _∷_, _++_}
+use mathlib.Core.Option.{none, some, Option·some-injective, Option·none-ne-some}
 use Prim.Native.Nat.{ℕ, zero, suc, _≤_, _<_}
 use native.Mathlib.Omega.{arith}
-use borrow.Author.Tests.{le-leb, leb-true, leb-false}
+use borrow.Author.Tests.{le-leb, leb-true, leb-false, eqb-true}
 use lib.Count.{trailingZeros}
-use lib.Dec.{leb, lit≤}
+use lib.Dec.{leb, eqb, lit≤}
 use lib.ListN.{length, getD, take, List·getD-eq-default}
-use Rattle.alphabet.specs.Symbols.{bytesOf, coding}
-use Rattle.bits.specs.Tables.{at, Bytes}
-use Rattle.alphabet.specs.Questions.{ask_else_then_, accepted, refused, by, refusalReply}
+use Rattle.alphabet.specs.Symbols.{coding}
+use Rattle.bits.specs.Tables.{at, Bytes, bytesOf}
+use Rattle.bits.proofs.Computed.{both-true}
+use Rattle.alphabet.specs.Questions.{ask_else_then_, Reply, accepted, refused, refusalReply, refusals, tells, firstTelling, by, numberIn}
 use Rattle.alphabet.specs.declared.refusal.Refusal.{Refusal}
+use Rattle.alphabet.specs.declared.refusal.Refusal.the-variants.{Unsound, TooFar, Uncovered, ShortMemory, NonMember, BadSkip, Outstanding, NoAlphabet, TooWide}
 use Rattle.alphabet.specs.Names.{displayName, nameOf, kinds, numberOf, known, kindOf, namedAt}
 use Rattle.alphabet.specs.Guess.{order, masked, lowest, guessOf, freshGuesser, soundGuesser, guesserUpdateAt, guessAt}
 use Rattle.alphabet.specs.Answers.{namedReply, namedTold, guesserUpdatedReply, guesserUpdateTold, guessedReply, guessTold}
@@ -24,33 +27,82 @@ use Rattle.alphabet.specs.declared.guesser.GuesserUpdated.{GuesserUpdate
 use Rattle.alphabet.specs.declared.guesser.Guessed.{Guessed}
 use Rattle.alphabet.proofs.Masks.{masked-append, masked-le, masked-sound, zeros-lt, guess-holds, holds-each}
 
--- ---- numbers
+-- ---- refusals
+
+-- a refusal's values
+abbrev pub valuesIn : Reply → List ℕ
+valuesIn (accepted values) = []
+valuesIn (refused number values) = values
+
+pub is-refused : (q : Refusal) → refusalReply q ≡ refused (numberIn (refusalReply q)) (valuesIn (refusalReply q))
+is-refused Unsound = refl
+is-refused TooFar = refl
+is-refused Uncovered = refl
+is-refused ShortMemory = refl
+is-refused (NonMember position byte) = refl
+is-refused BadSkip = refl
+is-refused (Outstanding bases) = refl
+is-refused NoAlphabet = refl
+is-refused TooWide = refl
+
+-- it is the one that its number and values give: no two have one number
+pub by-itself : (q : Refusal) → let values = valuesIn (refusalReply q) in firstTelling (numberIn (refusalReply q)) values (refusals values) ≡ some q
+by-itself Unsound = refl
+by-itself TooFar = refl
+by-itself Uncovered = refl
+by-itself ShortMemory = refl
+by-itself (NonMember position byte) = refl
+by-itself BadSkip = refl
+by-itself (Outstanding bases) = refl
+by-itself NoAlphabet = refl
+by-itself TooWide = refl
+
+-- as many values as a refusal has are its values
+abbrev Made : List ℕ → Refusal → Type 0
+Made values q = length values ≡ length (valuesIn (refusalReply q)) → valuesIn (refusalReply q) ≡ values
+
+no-values : (values : List ℕ) → length values ≡ 0 → [] ≡ values
+no-values [] e = refl
+no-values (v ∷ values) e = absurd (omega arith)
+
+one-value : (values : List ℕ) → length values ≡ 1 → at values 0 ∷ [] ≡ values
+one-value [] e = absurd (omega arith)
+one-value (v ∷ values) e = ap (λ (l : List ℕ). v ∷ l) (no-values values (omega arith))
+
+two-values : (values : List ℕ) → length values ≡ 2 → at values 0 ∷ at values 1 ∷ [] ≡ values
+two-values [] e = absurd (omega arith)
+two-values (v ∷ values) e = ap (λ (l : List ℕ). v ∷ l) (one-value values (omega arith))
+
+abbrev Each : (Refusal → Type 0) → List Refusal → Type 0
+Each P [] = Unit {0}
+Each P (q ∷ others) = P q × Each P others
+
+all-made : (values : List ℕ) → Each (Made values) (refusals values)
+all-made values =
+    let none = no-values values in (none, (none, (none, (none, (two-values values, (none, (one-value values, (none, (none, tt)))))))))
 
 -- the refusal that definitions write by a number and its values tells just these
-pub record Numbered : Type 0 where
-  pub told-1 : refusalReply (by 1 []) ≡ refused 1 []
-  pub told-2 : refusalReply (by 2 []) ≡ refused 2 []
-  pub told-3 : refusalReply (by 3 []) ≡ refused 3 []
-  pub told-4 : refusalReply (by 4 []) ≡ refused 4 []
-  pub told-5 : (position byte : ℕ) → refusalReply (by 5 (position ∷ byte ∷ [])) ≡ refused 5 (position ∷ byte ∷ [])
-  pub told-6 : refusalReply (by 6 []) ≡ refused 6 []
-  pub told-7 : (bases : ℕ) → refusalReply (by 7 (bases ∷ [])) ≡ refused 7 (bases ∷ [])
-  pub told-8 : refusalReply (by 8 []) ≡ refused 8 []
-  pub told-9 : refusalReply (by 9 []) ≡ refused 9 []
+pub by-told : (number : ℕ) (values : List ℕ) (q : Refusal) → firstTelling number values (refusals values) ≡ some q → refusalReply q ≡ refused number values
+by-told number values q = in-list (refusals values) (all-made values)
+  where
+    here : (p : Refusal) → Made values p → tells number values (refusalReply p) ≡ true → refusalReply p ≡ refused number values
+    here p made e =
+        let other : ℕ = numberIn (refusalReply p) in
+        let others : List ℕ = valuesIn (refusalReply p) in
+        let same : eqb number other && eqb (length values) (length others) ≡ true = sym (ap (tells number values) (is-refused p)) ∙ e in
+        let t = both-true (eqb number other) (eqb (length values) (length others)) same in
+        is-refused p ∙ ap₂ refused (sym (eqb-true number other (t .0))) (made (eqb-true (length values) (length others) (t .1)))
 
-pub numbered : Numbered
-numbered =
-    record {
-      told-1 = refl;
-      told-2 = refl;
-      told-3 = refl;
-      told-4 = refl;
-      told-5 = λ position byte. refl;
-      told-6 = refl;
-      told-7 = λ bases. refl;
-      told-8 = refl;
-      told-9 = refl;
-    }
+    in-list : (ps : List Refusal) → Each (Made values) ps → firstTelling number values ps ≡ some q → refusalReply q ≡ refused number values
+    in-list [] m e = absurd (Option·none-ne-some q e)
+    in-list (p ∷ ps) m e = go (tells number values (refusalReply p)) refl e (in-list ps (m .1))
+      where
+        go : (b : Bool) → tells number values (refusalReply p) ≡ b → cond b (some p) (firstTelling number values ps) ≡ some q
+            → (firstTelling number values ps ≡ some q → refusalReply q ≡ refused number values) → refusalReply q ≡ refused number values
+        go true w f ih = subst (λ (x : Refusal). refusalReply x ≡ refused number values) (Option·some-injective p q f) (here p (m .0) w)
+        go false w f ih = ih f
+
+-- ---- numbers of alphabets
 
 -- a known number's kind has that number
 pub number-kind : (n : ℕ) → n ≤ 5 → numberOf (kindOf n) ≡ n
@@ -72,6 +124,14 @@ kind-number DnaIupac = refl
 kind-number Protein = refl
 kind-number Ascii = refl
 kind-number Unknown = refl
+
+pub known-number : (k : AlphabetType) → known (numberOf k) ≡ true
+known-number Dna2bit = refl
+known-number Dna3bit = refl
+known-number DnaIupac = refl
+known-number Protein = refl
+known-number Ascii = refl
+known-number Unknown = refl
 
 -- a number that names none counts as Unknown
 pub unknown-kind : (n : ℕ) → known n ≡ false → kindOf n ≡ Unknown

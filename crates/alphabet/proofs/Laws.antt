@@ -9,10 +9,11 @@ use native.Mathlib.Nat.{pow-le-pow-right}
 use native.Mathlib.Omega.{arith}
 use borrow.Author.Tests.{ltb-true, lt-ltb, eq-eqb, ne-eqb, eqb-true}
 use lib.Dec.{T, eqb, ltb, eqb→eq, lit≤, lit<}
+use Rattle.bits.specs.Tables.{bytesOf}
 use Rattle.bits.proofs.Computed.{below, T-true}
 use Rattle.alphabet.specs.declared.kind.AlphabetType.{AlphabetType}
 use Rattle.alphabet.specs.declared.kind.AlphabetType.the-variants.{Dna2bit, Dna3bit, DnaIupac, Protein, Ascii, Unknown}
-use Rattle.alphabet.specs.Symbols.{bytesOf, coded, dna2bit, dna3bit, dnaIupac, protein, symbolOf, codeOf, among, found, Coding, canon, listed, plain, coding, checkSymbols}
+use Rattle.alphabet.specs.Symbols.{coded, dna2bit, dna3bit, dnaIupac, protein, symbolOf, codeOf, among, found, Coding, canon, listed, plain, coding, checkSymbols}
 use Rattle.alphabet.specs.Bases.{base}
 use Rattle.alphabet.proofs.Pairs.{found-none, found-among, found-back, found-fits, among-byte, symbols-apart, codes-apart}
 

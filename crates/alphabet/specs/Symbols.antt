@@ -1,20 +1,14 @@
 -- Symbols and codes. States document 01, "Leaf 1: symbols and codes".
 use Prim.Native.Nat.{ℕ, suc, _^_}
 use Prim.Native.Char.{code as ascii}
-use Prim.Native.String.{String, [] as ε, _∷_ as _then_}
 use mathlib.Core.Bool.{Bool, true, false, cond, not, _||_, _&&_}
 use mathlib.Core.List.{List, [], _∷_, map}
 use lib.Dec.{eqb, leb, ltb}
-use Rattle.bits.specs.Tables.{at}
+use Rattle.bits.specs.Tables.{at, bytesOf}
 use Rattle.alphabet.specs.declared.kind.AlphabetType.{AlphabetType}
 use Rattle.alphabet.specs.declared.kind.AlphabetType.the-variants.{Dna2bit, Dna3bit, DnaIupac, Protein, Ascii, Unknown}
 
 -- ---- the four symbol lists
-
--- the bytes of a text
-unfoldable pub bytesOf : String → List ℕ
-bytesOf ε = []
-bytesOf (c then text) = ascii c ∷ bytesOf text
 
 -- pairs of symbol and code, the codes upward from n
 unfoldable pub coded : ℕ → List ℕ → List (List ℕ)

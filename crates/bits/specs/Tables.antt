@@ -1,5 +1,7 @@
--- Tables: a function of a place, written out as a list.
+-- Tables: a function of a place, written out as a list. And the bytes of a text that is written as a literal.
 use Prim.Native.Nat.{ℕ, zero, suc, _<_}
+use Prim.Native.Char.{code as ascii}
+use Prim.Native.String.{String, [] as ε, _∷_ as _then_}
 use mathlib.Core.List.{List, [], _∷_, _++_}
 use lib.ListN.{getD}
 
@@ -15,3 +17,8 @@ at xs i = getD xs i 0
 -- every entry of a list is a byte
 abbrev pub Bytes : List ℕ → Type 0
 Bytes xs = (i : ℕ) → at xs i < 256
+
+-- the bytes of a text
+unfoldable pub bytesOf : String → List ℕ
+bytesOf ε = []
+bytesOf (c then text) = ascii c ∷ bytesOf text

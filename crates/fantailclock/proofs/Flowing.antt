@@ -1,18 +1,15 @@
 -- The reads' and the stream's calls as numbers, case by case.
-use mathlib.Core.Path.{_≡_, refl, sym, ap, ap₂, _∙_}
-use mathlib.Core.Bool.{Bool, _&&_}
+use mathlib.Core.Path.{_≡_, sym, ap, ap₂, _∙_}
 use mathlib.Core.List.{List, []}
 use Prim.Native.Nat.{ℕ, _≤_, _<_}
-use native.Mathlib.Omega.{arith}
 use borrow.Author.Tests.{le-leb, lt-leb}
-use lib.Dec.{leb}
 use lib.ListN.{length}
 use Rattle.alphabet.specs.declared.kind.AlphabetType.{AlphabetType}
 use Rattle.alphabet.specs.declared.kind.Named.{Named}
 use Rattle.alphabet.specs.declared.refusal.Refusal.{Refusal}
-use Rattle.alphabet.specs.Questions.{ask_else_then_, refusalReply, numberIn}
-use Rattle.alphabet.specs.Names.{known, kindOf, namedAt}
-use Rattle.alphabet.proofs.Calls.{named-kind, named-refused}
+use Rattle.alphabet.specs.Questions.{refusalReply, numberIn}
+use Rattle.alphabet.specs.Names.{namedAt}
+use Rattle.alphabet.proofs.Calls.{is-refused, named-kind, named-refused}
 use Rattle.windows.specs.declared.read.Read.{Read}
 use Rattle.windows.specs.Answers.{readReply}
 use Rattle.streaming.specs.declared.decoder.Status.{Status}
@@ -23,15 +20,10 @@ use Rattle.streaming.specs.declared.decoder.Ended.{Ended as End}
 use Rattle.streaming.specs.Stream.{startStreamAt, streamAt, streamMemory, endAt}
 use Rattle.streaming.specs.Answers.{streamStartedReply, statusNumber, endedReply}
 use Rattle.fantailclock.specs.declared.streams.State.{State}
-use Rattle.fantailclock.specs.declared.shapes.Count.{Count}
 use Rattle.fantailclock.specs.declared.shapes.Details.{Details}
-use Rattle.fantailclock.specs.declared.shapes.Ended.{Ended}
 use Rattle.fantailclock.specs.declared.shapes.Stream.{Stream}
-use Rattle.fantailclock.specs.declared.shapes.StreamStarted.{StreamStarted}
-use Rattle.fantailclock.specs.declared.shapes.Streamed.{Streamed}
 use Rattle.fantailclock.specs.Shapes.{count, details, ended}
 use Rattle.fantailclock.specs.Streams.{inside, outside, stateOf, streamStarted, streamedBy, streamedFrom, streamed, memoryFrom, streamedMemory, endFrom, endTold}
-use Rattle.fantailclock.proofs.Told.{is-refused}
 
 -- ---- reads
 

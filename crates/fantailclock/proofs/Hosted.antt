@@ -1,18 +1,17 @@
 -- The encoder's calls as numbers, case by case.
-use mathlib.Core.Path.{_≡_, refl, sym, ap, ap₂, _∙_}
-use mathlib.Core.Bool.{Bool, true, false, cond, _&&_, _||_, true≢false}
-use mathlib.Core.List.{List, [], _∷_}
+use mathlib.Core.Path.{_≡_, sym, ap, ap₂, _∙_}
+use mathlib.Core.Bool.{Bool, true, false, _&&_, _||_, true≢false}
+use mathlib.Core.List.{List, []}
 use Prim.Native.Nat.{ℕ, _≤_, _<_}
-use native.Mathlib.Omega.{arith}
-use borrow.Author.Tests.{le-leb, lt-leb, leb-true, eq-eqb, ne-eqb, eqb-true}
+use borrow.Author.Tests.{le-leb, lt-leb, leb-true, eq-eqb, ne-eqb}
 use lib.Dec.{leb, eqb}
 use lib.ListN.{length}
 use Rattle.alphabet.specs.declared.kind.AlphabetType.{AlphabetType}
 use Rattle.alphabet.specs.declared.kind.Named.{Named}
 use Rattle.alphabet.specs.declared.refusal.Refusal.{Refusal}
-use Rattle.alphabet.specs.Questions.{ask_else_then_, Reply, accepted, refused, refusalReply, numberIn}
-use Rattle.alphabet.specs.Names.{numberOf, known, kindOf, namedAt}
-use Rattle.alphabet.proofs.Calls.{named-kind, named-refused}
+use Rattle.alphabet.specs.Questions.{refused, refusalReply, numberIn}
+use Rattle.alphabet.specs.Names.{numberOf, namedAt}
+use Rattle.alphabet.proofs.Calls.{is-refused, named-kind, named-refused}
 use Rattle.packing.specs.declared.first.First.{First}
 use Rattle.packing.specs.declared.encoder.SequenceEncoder.{SequenceEncoder}
 use Rattle.packing.specs.declared.encoder.EncoderStarted.{EncoderStarted as Start}
@@ -24,13 +23,10 @@ use Rattle.packing.specs.Encode.{startEncoderAt, updateAt, updateMemory, finali
 use Rattle.packing.specs.Answers.{encoderStartedReply, encodedReply, finalizedReply, rangeReply}
 use Rattle.fantailclock.specs.declared.encoders.State.{State}
 use Rattle.fantailclock.specs.declared.shapes.Encoder.{Encoder}
-use Rattle.fantailclock.specs.declared.shapes.EncoderStarted.{EncoderStarted}
-use Rattle.fantailclock.specs.declared.shapes.Updated.{Updated}
 use Rattle.fantailclock.specs.declared.shapes.Packed.{Packed}
 use Rattle.fantailclock.specs.Shapes.{range, packed}
 use Rattle.fantailclock.specs.Encoders.{inside, fitting, outsideWith, outside, encoderStarted, stateOf, updatedBy, updatedFrom, encoderUpdated, updateMemoryFrom}
 use Rattle.fantailclock.specs.Encoders.{encoderUpdateMemory, finalizeFrom, finalizeTold, finalizeMemoryFrom, encoderFinalizeMemory}
-use Rattle.fantailclock.proofs.Told.{is-refused}
 
 -- ---- byte ranges and whole texts
 

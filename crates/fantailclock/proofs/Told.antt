@@ -1,53 +1,32 @@
 -- What a reply is as numbers, for each case of an answer.
-use mathlib.Core.Path.{_≡_, refl, sym, ap, ap₂, _∙_}
+use mathlib.Core.Path.{_≡_, refl, sym, ap, _∙_}
 use mathlib.Core.Bool.{Bool, true, false, cond}
-use mathlib.Core.List.{List, [], _∷_, _++_}
+use mathlib.Core.List.{List, []}
 use Prim.Native.Nat.{ℕ, _≤_, _<_}
 use native.Mathlib.Omega.{arith}
 use borrow.Author.Tests.{le-leb, lt-leb}
 use lib.Dec.{leb}
-use lib.ListN.{length, take, drop}
-use lib.Seq.{length-take-le}
+use lib.ListN.{length, take}
 use Rattle.bits.specs.Memory.{front}
-use Rattle.alphabet.specs.Questions.{Reply, accepted, refused, refusalReply, by, numberIn, valueIn}
+use Rattle.alphabet.specs.Questions.{Reply, accepted, refusalReply, numberIn, valueIn}
 use Rattle.alphabet.specs.Symbols.{coding}
-use Rattle.alphabet.specs.Names.{displayName, nameOf, numberOf, known, kindOf, numbered, namedAt}
-use Rattle.alphabet.specs.Guess.{guessOf, soundGuesser, guessAt}
+use Rattle.alphabet.specs.Names.{displayName, nameOf, numberOf, namedAt}
+use Rattle.alphabet.specs.Guess.{soundGuesser}
 use Rattle.alphabet.specs.Answers.{guesserUpdatedReply, guesserUpdateTold, guessedReply, guessTold}
 use Rattle.alphabet.specs.declared.kind.AlphabetType.{AlphabetType}
 use Rattle.alphabet.specs.declared.kind.Name.{Name}
 use Rattle.alphabet.specs.declared.kind.Named.{Named}
 use Rattle.alphabet.specs.declared.refusal.Refusal.{Refusal}
-use Rattle.alphabet.specs.declared.refusal.Refusal.the-variants.{Unsound, TooFar, Uncovered, ShortMemory, NonMember, BadSkip, Outstanding, NoAlphabet, TooWide}
 use Rattle.alphabet.specs.declared.guesser.AlphabetGuesser.{AlphabetGuesser}
 use Rattle.alphabet.specs.declared.guesser.GuesserUpdated.{GuesserUpdated}
 use Rattle.alphabet.specs.declared.guesser.Guessed.{Guessed}
 use Rattle.alphabet.proofs.Laws.{lawful}
-use Rattle.alphabet.proofs.Calls.{spelt, named-kind, named-refused, sound-range}
-use Rattle.fantailclock.specs.declared.shapes.Number.{Number}
-use Rattle.fantailclock.specs.declared.shapes.Count.{Count}
+use Rattle.alphabet.proofs.Calls.{is-refused, spelt, named-kind, named-refused, sound-range}
 use Rattle.fantailclock.specs.declared.shapes.Guesser.{Guesser}
-use Rattle.fantailclock.specs.declared.shapes.Guessing.{Guessing}
 use Rattle.fantailclock.specs.Shapes.{number, count, guesser, guessing}
-use Rattle.fantailclock.specs.Kinds.{bitsTold, containsTold, nameTold, nameMemory, guessedTold}
+use Rattle.fantailclock.specs.Kinds.{bitsTold, containsTold, nameTold, nameMemory}
 
--- ---- a refusal
-
-abbrev valuesIn : Reply → List ℕ
-valuesIn (accepted values) = []
-valuesIn (refused n values) = values
-
-pub is-refused : (q : Refusal) → refusalReply q ≡ refused (numberIn (refusalReply q)) (valuesIn (refusalReply q))
-is-refused Unsound = refl
-is-refused TooFar = refl
-is-refused Uncovered = refl
-is-refused ShortMemory = refl
-is-refused (NonMember position byte) = refl
-is-refused BadSkip = refl
-is-refused (Outstanding bases) = refl
-is-refused NoAlphabet = refl
-is-refused TooWide = refl
-
+-- a refusal has no value of an accepted call
 pub no-value : (q : Refusal) → 0 ≡ valueIn 0 (refusalReply q)
 no-value q = sym (ap (valueIn 0) (is-refused q))
 
@@ -78,21 +57,21 @@ module _ (n : ℕ) where
   -- a name that the memory cannot hold, and one that it can
   pub name-short : (k : AlphabetType) (name : Name) (memory : List ℕ) → namedAt n ≡ Named.Kind k → name ≡ nameOf k → length memory < name .len
       → (record { refusal = 4; count = 0 } ≡ count (nameTold n (length memory))) × (memory ≡ nameMemory n memory)
-  unfolding nameTold nameMemory nameOf
+  unfolding nameTold nameMemory
   name-short k name memory e q h =
       let s = named-kind n k e in
-      let no : leb (length (displayName k)) (length memory) ≡ false = lt-leb (length (displayName k)) (length memory) (rw q at h) in
+      let no : leb (length (displayName k)) (length memory) ≡ false = lt-leb (length (displayName k)) (length memory) (rw (q, spelt k .counted) at h) in
       (rw (s .0, s .1, no), rw (s .0, s .1, no))
 
   pub name-fits : (k : AlphabetType) (name : Name) (memory out : List ℕ) → namedAt n ≡ Named.Kind k → name ≡ nameOf k → name .len ≤ length memory
       → out ≡ front (take (name .len) (name .bytes)) memory
       → (record { refusal = 0; count = name .len } ≡ count (nameTold n (length memory))) × (out ≡ nameMemory n memory)
-  unfolding nameTold nameMemory nameOf
+  unfolding nameTold nameMemory
   name-fits k name memory out e q h p =
       let s = named-kind n k e in
-      let yes′ : leb (length (displayName k)) (length memory) ≡ true = le-leb (length (displayName k)) (length memory) (rw q at h) in
+      let yes′ : leb (length (displayName k)) (length memory) ≡ true = le-leb (length (displayName k)) (length memory) (rw (q, spelt k .counted) at h) in
       let text : take (name .len) (name .bytes) ≡ displayName k = rw q (spelt k .front) in
-      (rw (s .0, s .1, yes′) (ap (λ (x : Name). record { refusal = 0; count = x .len }) q), rw (s .0, s .1, yes′) (p ∙ ap (λ (t : List ℕ). front t memory) text))
+      (rw (s .0, s .1, yes′, q, spelt k .counted), rw (s .0, s .1, yes′) (p ∙ ap (λ (t : List ℕ). front t memory) text))
 
   -- a number that names no alphabet
   pub bits-refused : (q : Refusal) (m : ℕ) → namedAt n ≡ Named.Refused q → m ≡ numberIn (refusalReply q) → record { refusal = m; value = 0 } ≡ number (bitsTold n)

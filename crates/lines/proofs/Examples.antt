@@ -1,10 +1,10 @@
 -- Examples of digits and lines, computed.
 use mathlib.Core.Path.{_≡_, refl}
 use mathlib.Core.List.{[], _∷_}
-use Rattle.alphabet.specs.Symbols.{bytesOf}
+use Rattle.bits.specs.Tables.{bytesOf}
 use Rattle.alphabet.specs.Questions.{by}
-use Rattle.alphabet.specs.Names.{displayName}
 use Rattle.alphabet.specs.declared.kind.AlphabetType.the-variants.{Dna2bit}
+use Rattle.alphabet.proofs.Calls.{names}
 use Rattle.lines.specs.Digits.{digit, decimalIn, decimal, hex}
 use Rattle.lines.specs.Lines.{line, packedLines, refusedLine}
 
@@ -20,5 +20,5 @@ pub record Examples : Type 0 where
   pub refused : refusedLine (by 4 []) ≡ bytesOf "refused 4\n"
 
 pub examples : Examples
-unfolding digit decimalIn decimal hex line packedLines refusedLine bytesOf displayName
-examples = record { zero-digit = refl; two-digits = refl; five-digits = refl; twenty-digits = refl; in-hex = refl; packed = refl; empty = refl; refused = refl }
+unfolding digit decimalIn decimal hex line packedLines refusedLine bytesOf
+examples = record { zero-digit = refl; two-digits = refl; five-digits = refl; twenty-digits = refl; in-hex = refl; packed = rw (names .of-dna2bit); empty = rw (names .of-dna2bit); refused = refl }

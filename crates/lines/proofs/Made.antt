@@ -5,9 +5,9 @@ use Prim.Native.Nat.{ℕ, _+_, _-_, _*_, _≤_}
 use native.Mathlib.Omega.{arith}
 use lib.ListN.{length, take, drop, length-append, length-drop}
 use lib.Seq.{take-all, length-take-le}
+use Rattle.bits.specs.Tables.{bytesOf}
 use Rattle.bits.specs.Memory.{putAt}
 use Rattle.alphabet.specs.Questions.{refusalReply, numberIn}
-use Rattle.alphabet.specs.Symbols.{bytesOf}
 use Rattle.alphabet.specs.Names.{displayName, nameOf}
 use Rattle.alphabet.specs.declared.kind.AlphabetType.{AlphabetType}
 use Rattle.alphabet.specs.declared.kind.Name.{Name}

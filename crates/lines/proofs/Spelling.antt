@@ -10,8 +10,8 @@ use borrow.Author.Tests.{lt-ltb, le-ltb}
 use lib.Dec.{ltb, eqb, eqb→eq, lit<, lit≤}
 use lib.ListN.{length, take, drop, set, replicate, length-set, length-append}
 use lib.Seq.{length-take-le, set-split, drop-at}
+use Rattle.bits.specs.Tables.{bytesOf}
 use Rattle.bits.proofs.Computed.{below}
-use Rattle.alphabet.specs.Symbols.{bytesOf}
 use Rattle.lines.specs.Digits.{digit, decimalIn, decimal, hex}
 use Rattle.lines.specs.Spelt.{Spelt}
 

@@ -3,8 +3,7 @@ use Prim.Native.Nat.{ℕ, zero, suc, _/_, _%_}
 use mathlib.Core.Bool.{cond}
 use mathlib.Core.List.{List, [], _∷_, _++_}
 use lib.Dec.{ltb}
-use Rattle.bits.specs.Tables.{at}
-use Rattle.alphabet.specs.Symbols.{bytesOf}
+use Rattle.bits.specs.Tables.{at, bytesOf}
 
 -- the character of a digit
 unfoldable pub digit : ℕ → ℕ

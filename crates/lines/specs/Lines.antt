@@ -3,9 +3,9 @@ use Prim.Native.Nat.{ℕ}
 use mathlib.Core.List.{List, [], _∷_, _++_}
 use lib.Dec.{leb}
 use lib.ListN.{length}
+use Rattle.bits.specs.Tables.{bytesOf}
 use Rattle.bits.specs.Memory.{front}
 use Rattle.alphabet.specs.Questions.{ask_else_then_, refusalReply, numberIn}
-use Rattle.alphabet.specs.Symbols.{bytesOf}
 use Rattle.alphabet.specs.Names.{displayName}
 use Rattle.alphabet.specs.declared.kind.AlphabetType.{AlphabetType}
 use Rattle.alphabet.specs.declared.refusal.Refusal.{Refusal}

@@ -1,29 +1,29 @@
 -- What is printed for each answer, that it fits the program's memory, and that no text of bytes is refused.
 use mathlib.Core.Path.{_≡_, refl, sym, ap, _∙_}
-use mathlib.Core.Bool.{Bool, true, false, cond, _&&_, true≢false}
+use mathlib.Core.Bool.{Bool, true, false}
 use mathlib.Core.List.{List, [], _∷_, _++_}
-use Prim.Native.Nat.{ℕ, suc, _+_, _*_, _≤_, _<_}
+use Prim.Native.Nat.{ℕ, _+_, _*_, _≤_, _<_}
 use native.Mathlib.Nat.{mul-le-mul}
 use native.Mathlib.Omega.{arith}
 use borrow.Author.Tests.{le-leb, lt-leb, leb-true}
 use lib.Dec.{leb}
 use lib.ListN.{length, take, drop, length-append}
 use lib.Seq.{take-at}
-use Rattle.bits.specs.Tables.{Bytes}
+use Rattle.bits.specs.Tables.{Bytes, bytesOf}
 use Rattle.bits.specs.Packing.{bytesFor}
 use Rattle.bits.specs.Memory.{front}
 use Rattle.alphabet.specs.Questions.{ask_else_then_, by, limit, inBounds}
-use Rattle.alphabet.specs.Symbols.{bytesOf, Coding, coding}
+use Rattle.alphabet.specs.Symbols.{Coding, coding}
 use Rattle.alphabet.specs.Names.{numberOf, known, kindOf, numbered}
-use Rattle.alphabet.specs.Guess.{guessOf, holdsAll}
+use Rattle.alphabet.specs.Guess.{guessOf}
 use Rattle.alphabet.specs.declared.kind.AlphabetType.{AlphabetType}
 use Rattle.alphabet.specs.declared.refusal.Refusal.{Refusal}
 use Rattle.alphabet.proofs.Laws.{lawful}
-use Rattle.alphabet.proofs.Calls.{kind-number}
-use Rattle.alphabet.proofs.Masks.{guess-holds}
+use Rattle.alphabet.proofs.Calls.{kind-number, known-number, guess-members}
 use Rattle.packing.specs.declared.first.First.{First}
 use Rattle.packing.specs.declared.sequence.Encoded.{Encoded}
 use Rattle.packing.specs.Encode.{packing, firstFrom, unlessBad, encodeAt, encodeWrites, encodeMemory}
+use Rattle.packing.proofs.Search.{first-none}
 use Rattle.packing.proofs.Laid.{packing-length}
 use Rattle.lines.specs.Lines.{line, packedLines, refusedLine, putCount, putMemory}
 use Rattle.lines.proofs.Parts.{line-length, put-whole}
@@ -134,23 +134,6 @@ all-put text made memory out r e room q o =
 
 -- ---- the guess leaves no text that is refused
 
-holds-none : (k : AlphabetType) (i : ℕ) (text : List ℕ) → holdsAll k text ≡ true → firstFrom (coding k) i text ≡ First.Nothing
-unfolding holdsAll firstFrom
-holds-none k i [] e = refl
-holds-none k i (v ∷ text) e = go (coding k .member v) (λ q. holds-none k (suc i) text q) e
-  where
-    go : (b : Bool) → (holdsAll k text ≡ true → firstFrom (coding k) (suc i) text ≡ First.Nothing) → b && holdsAll k text ≡ true → cond b (firstFrom (coding k) (suc i) text) (First.At i v) ≡ First.Nothing
-    go true ih q = ih q
-    go false ih q = absurd (true≢false (sym q))
-
-known-number : (k : AlphabetType) → known (numberOf k) ≡ true
-known-number AlphabetType.Dna2bit = refl
-known-number AlphabetType.Dna3bit = refl
-known-number AlphabetType.DnaIupac = refl
-known-number AlphabetType.Protein = refl
-known-number AlphabetType.Ascii = refl
-known-number AlphabetType.Unknown = refl
-
 -- three lines for every text of at most 16,384 bytes
 pub three-lines :
     (text : List ℕ) → Bytes text → length text ≤ longest → printed text ≡ packedLines (guessOf text) (length text) (packing (coding (guessOf text)) text)
@@ -158,7 +141,7 @@ unfolding printed answered encodeAt
 three-lines text bytes h =
     let k : AlphabetType = guessOf text in
     let same : numbered (numberOf k) ≡ coding k = ap coding (kind-number k) in
-    let none : firstFrom (coding k) 0 text ≡ First.Nothing = holds-none k 0 text (guess-holds text bytes) in
+    let none : firstFrom (coding k) 0 text ≡ First.Nothing = first-none (coding k) 0 text (guess-members text bytes) in
     let fits : leb (bytesFor (length text * coding k .width)) longest ≡ true =
     le-leb (bytesFor (length text * coding k .width)) longest (omega (arith, packing-length (coding k) text, packed-short k text h)) in
     rw (le-leb (length text) longest h, known-number k, le-leb (length text) limit (omega arith), same, fits, none)

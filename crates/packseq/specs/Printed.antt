@@ -3,8 +3,9 @@ use Prim.Native.Nat.{ℕ}
 use mathlib.Core.List.{List}
 use lib.Dec.{leb}
 use lib.ListN.{length}
+use Rattle.bits.specs.Tables.{bytesOf}
 use Rattle.alphabet.specs.Questions.{ask_else_then_}
-use Rattle.alphabet.specs.Symbols.{bytesOf, coding}
+use Rattle.alphabet.specs.Symbols.{coding}
 use Rattle.alphabet.specs.Names.{numberOf}
 use Rattle.alphabet.specs.Guess.{guessOf}
 use Rattle.packing.specs.declared.sequence.Encoded.{Encoded}

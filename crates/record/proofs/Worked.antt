@@ -1,10 +1,10 @@
 -- The rows of the worked table hold: one claim, by computation.
 use mathlib.Core.Path.{refl}
 use lib.Count.{trailingZeros}
-use Rattle.bits.specs.Tables.{tabulate}
+use Rattle.bits.specs.Tables.{tabulate, bytesOf}
 use Rattle.bits.specs.Streams.{bitAt, word, after, cut}
 use Rattle.bits.specs.Packing.{pack, atHand, fileByte, codesFrom}
-use Rattle.alphabet.specs.Symbols.{bytesOf, coded, dna2bit, dna3bit, dnaIupac, protein, among, found, canon, listed, plain, coding}
+use Rattle.alphabet.specs.Symbols.{coded, dna2bit, dna3bit, dnaIupac, protein, among, found, canon, listed, plain, coding}
 use Rattle.alphabet.specs.Names.{kindOf}
 use Rattle.alphabet.specs.Guess.{holders, maskOf, masked, lowest, guessOf}
 use Rattle.packing.specs.Encode.{digitOf, packing, firstFrom, encodeAt, encodeWrites, encodeMemory}

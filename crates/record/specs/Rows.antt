@@ -5,11 +5,12 @@ use Prim.Native.String.{String}
 use mathlib.Core.Path.{_≡_}
 use mathlib.Core.List.{List, [], _∷_, map}
 use lib.ListN.{length, replicate}
+use Rattle.bits.specs.Tables.{bytesOf}
 use Rattle.bits.specs.Memory.{front}
 use Rattle.alphabet.specs.declared.kind.AlphabetType.{AlphabetType}
 use Rattle.alphabet.specs.declared.kind.AlphabetType.the-variants.{Dna2bit, Dna3bit, DnaIupac, Protein, Ascii, Unknown}
 use Rattle.alphabet.specs.Questions.{by, accepted, refused}
-use Rattle.alphabet.specs.Symbols.{bytesOf, coding}
+use Rattle.alphabet.specs.Symbols.{coding}
 use Rattle.alphabet.specs.Names.{numberOf}
 use Rattle.alphabet.specs.Guess.{guessOf}
 use Rattle.packing.specs.declared.sequence.Encoded.{Encoded}

@@ -1,5 +1,5 @@
 -- What the stream's calls answer, by the questions that they ask.
-use mathlib.Core.Path.{_≡_, refl, ap}
+use mathlib.Core.Path.{_≡_, refl, sym, ap}
 use mathlib.Core.Bool.{Bool, true, false, _&&_, _||_}
 use mathlib.Core.List.{[]}
 use mathlib.Core.Logic.{_⊎_, inl, inr}
@@ -10,10 +10,11 @@ use lib.Dec.{ltb, eqb}
 use Rattle.alphabet.specs.declared.kind.AlphabetType.{AlphabetType}
 use Rattle.alphabet.specs.declared.kind.Named.{Named}
 use Rattle.alphabet.specs.declared.refusal.Refusal.{Refusal}
-use Rattle.alphabet.specs.Questions.{ask_else_then_, by}
+use Rattle.alphabet.specs.Questions.{by}
 use Rattle.alphabet.specs.Symbols.{coding}
-use Rattle.alphabet.specs.Names.{known, kindOf, namedAt}
+use Rattle.alphabet.specs.Names.{namedAt}
 use Rattle.alphabet.proofs.Laws.{Packed, Plain, shape}
+use Rattle.alphabet.proofs.Calls.{named-kind, named-refused}
 use Rattle.streaming.specs.declared.decoder.StreamingDecoder.{StreamingDecoder}
 use Rattle.streaming.specs.declared.decoder.StreamStarted.{StreamStarted}
 use Rattle.streaming.specs.Stream.{freshStream, soundStream, startStreamAt}
@@ -73,27 +74,19 @@ module _ (s : StreamingDecoder) where
 -- ---- `new`
 
 module _ (alphabet skip budget : ℕ) where
-  named-refused : (b : Bool) (q : Refusal) → Named.Refused q ≡ (ask b else Named.Refused (by 8 []) then Named.Kind (kindOf alphabet)) → b ≡ false
-  named-refused true q e = let z : _≡_ {A = ℕ} 0 1 = cc in absurd (omega arith)
-  named-refused false q e = refl
-
-  named-kind : (b : Bool) (k : AlphabetType) → Named.Kind k ≡ (ask b else Named.Refused (by 8 []) then Named.Kind (kindOf alphabet)) → (b ≡ true) × (k ≡ kindOf alphabet)
-  named-kind true k e = (refl, cc)
-  named-kind false k e = let z : _≡_ {A = ℕ} 0 1 = cc in absurd (omega arith)
-
   pub start-unknown : (q : Refusal) → Named.Refused q ≡ namedAt alphabet → StreamStarted.Refused (by 8 []) ≡ startStreamAt alphabet skip budget
-  unfolding namedAt startStreamAt
-  start-unknown q e = rw (named-refused (known alphabet) q e)
+  unfolding startStreamAt
+  start-unknown q e = rw (named-refused alphabet q (sym e) .0)
 
   pub start-skip : (k : AlphabetType) → Named.Kind k ≡ namedAt alphabet → 8 ≤ skip → StreamStarted.Refused (by 6 []) ≡ startStreamAt alphabet skip budget
-  unfolding namedAt startStreamAt
-  start-skip k e h = rw (named-kind (known alphabet) k e .0, le-ltb skip 8 h)
+  unfolding startStreamAt
+  start-skip k e h = rw (named-kind alphabet k (sym e) .0, le-ltb skip 8 h)
 
   pub start-fresh : (k : AlphabetType) → Named.Kind k ≡ namedAt alphabet → skip < 8 → StreamStarted.Fresh (freshStream k skip budget) ≡ startStreamAt alphabet skip budget
-  unfolding namedAt startStreamAt
+  unfolding startStreamAt
   start-fresh k e h =
-      rw (named-kind (known alphabet) k e .0, lt-ltb skip 8 h)
-      (ap (λ (x : AlphabetType). StreamStarted.Fresh (freshStream x skip budget)) (named-kind (known alphabet) k e .1))
+      let s = named-kind alphabet k (sym e) in
+      rw (s .0, lt-ltb skip 8 h) (ap (λ (x : AlphabetType). StreamStarted.Fresh (freshStream x skip budget)) (sym (s .1)))
 
 -- ---- the two shapes of alphabets
 

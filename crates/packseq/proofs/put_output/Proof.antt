@@ -3,7 +3,7 @@ use Prim.Native.Nat.{ℕ, _≤_}
 use borrow.Author.Needs.{needs}
 use lib.ListN.{length, take, replicate, length-replicate}
 use lib.Seq.{length-take-le}
-use Rattle.alphabet.specs.Symbols.{bytesOf}
+use Rattle.bits.specs.Tables.{bytesOf}
 use Rattle.alphabet.specs.declared.refusal.Refusal.{Refusal}
 use Rattle.packing.specs.declared.sequence.Encoded.{Encoded}
 use Rattle.lines.specs.Lines.{line, packedLines, refusedLine}

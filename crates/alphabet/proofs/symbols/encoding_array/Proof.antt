@@ -1,8 +1,8 @@
 use mathlib.Core.Path.{sym, ap, _∙_}
 use borrow.Author.Needs.{needs}
-use Rattle.bits.specs.Tables.{tabulate}
+use Rattle.bits.specs.Tables.{tabulate, bytesOf}
 use Rattle.alphabet.specs.declared.kind.AlphabetType.{AlphabetType}
-use Rattle.alphabet.specs.Symbols.{bytesOf, coded, dna2bit, dna3bit, dnaIupac, protein, canon, listed, plain, coding}
+use Rattle.alphabet.specs.Symbols.{coded, dna2bit, dna3bit, dnaIupac, protein, canon, listed, plain, coding}
 use Rattle.alphabet.proofs.symbols.encoding_array.Statement.{statement}
 use Rattle.alphabet.proofs.symbols.encoding_array.Tie as tie
 

@@ -4,7 +4,7 @@ use Prim.Native.Nat.{ℕ}
 use native.Mathlib.Omega.{arith}
 use borrow.Author.Needs.{needs}
 use lib.ListN.{length}
-use Rattle.alphabet.specs.Symbols.{bytesOf}
+use Rattle.bits.specs.Tables.{bytesOf}
 use Rattle.lines.specs.Digits.{decimal}
 use Rattle.lines.specs.Lines.{line, refusedLine}
 use Rattle.lines.proofs.Parts.{line-length, put-short}
