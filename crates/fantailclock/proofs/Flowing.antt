@@ -1,17 +1,14 @@
 -- The reads' and the stream's calls as numbers, case by case.
-use mathlib.Core.Path.{_≡_, refl, sym, ap, ap₂, _∙_}
-use mathlib.Core.Bool.{Bool, _&&_}
+use mathlib.Core.Path.{_≡_, sym, ap, ap₂, _∙_}
 use mathlib.Core.List.{List, []}
 use Prim.Native.Nat.{ℕ, _≤_, _<_}
-use native.Mathlib.Omega.{arith}
 use borrow.Author.Tests.{le-leb, lt-leb}
-use lib.Dec.{leb}
 use lib.ListN.{length}
 use Rattle.alphabet.specs.declared.kind.AlphabetType.{AlphabetType}
 use Rattle.alphabet.specs.declared.kind.Named.{Named}
 use Rattle.alphabet.specs.declared.refusal.Refusal.{Refusal}
-use Rattle.alphabet.specs.Questions.{ask_else_then_, refusalReply, numberIn}
-use Rattle.alphabet.specs.Names.{known, kindOf, namedAt}
+use Rattle.alphabet.specs.Questions.{refusalReply, numberIn}
+use Rattle.alphabet.specs.Names.{namedAt}
 use Rattle.alphabet.proofs.Calls.{is-refused, named-kind, named-refused}
 use Rattle.windows.specs.declared.read.Read.{Read}
 use Rattle.windows.specs.Answers.{readReply}
@@ -23,13 +20,9 @@ use Rattle.streaming.specs.declared.decoder.Ended.{Ended as End}
 use Rattle.streaming.specs.Stream.{startStreamAt, streamAt, streamMemory, endAt}
 use Rattle.streaming.specs.Answers.{streamStartedReply, statusNumber, endedReply}
 use Rattle.fantailclock.specs.declared.streams.State.{State}
-use Rattle.fantailclock.specs.declared.shapes.Count.{Count}
-use Rattle.fantailclock.specs.declared.shapes.Packed.{Packed}
-use Rattle.fantailclock.specs.declared.shapes.Ended.{Ended}
+use Rattle.fantailclock.specs.declared.shapes.Details.{Details}
 use Rattle.fantailclock.specs.declared.shapes.Stream.{Stream}
-use Rattle.fantailclock.specs.declared.shapes.StreamStarted.{StreamStarted}
-use Rattle.fantailclock.specs.declared.shapes.Streamed.{Streamed}
-use Rattle.fantailclock.specs.Shapes.{count, packed, ended}
+use Rattle.fantailclock.specs.Shapes.{count, details, ended}
 use Rattle.fantailclock.specs.Streams.{inside, outside, stateOf, streamStarted, streamedBy, streamedFrom, streamed, memoryFrom, streamedMemory, endFrom, endTold}
 
 -- ---- reads
@@ -62,10 +55,11 @@ module _ (s : Stream) where
     state-value h l m = sym (rw (named-kind (s .alphabet) k n .0, le-leb (s .skip) 255 h, le-leb (s .«pending_bits») 255 l, lt-leb (s .pending) 255 m))
 
     pub state-fine : s .skip ≤ 255 → s .«pending_bits» ≤ 255 → s .pending ≤ 255
-        → State.Sound (record { alphabet = k; skip = s .skip; budget = s .budget; bits = s .«pending_bits»; pending = s .pending }) ≡ stateOf s
+        → State.Fits (record { alphabet = k; skip = s .skip; budget = s .budget; bits = s .«pending_bits»; pending = s .pending }) ≡ stateOf s
     unfolding stateOf inside
     state-fine h l m =
-        ap (λ (x : AlphabetType). State.Sound (record { alphabet = x; skip = s .skip; budget = s .budget; bits = s .«pending_bits»; pending = s .pending })) (sym (named-kind (s .alphabet) k n .1))
+        ap (λ (x : AlphabetType). State.Fits (record { alphabet = x; skip = s .skip; budget = s .budget; bits = s .«pending_bits»; pending = s .pending }))
+        (sym (named-kind (s .alphabet) k n .1))
         ∙ sym (rw (named-kind (s .alphabet) k n .0, le-leb (s .skip) 255 h, le-leb (s .«pending_bits») 255 l, le-leb (s .pending) 255 m))
 
 -- ---- its calls
@@ -78,18 +72,21 @@ module _ (a q b : ℕ) where
   unfolding streamStarted
   start-fresh x d e f = ap (λ (y : Start). record { refusal = numberIn (streamStartedReply y); next = echoed a q b }) (sym e ∙ f)
 
-  pub start-refused : (x : Start) (r : Refusal) (m : ℕ) → x ≡ Start.Refused r → x ≡ startStreamAt a q b → m ≡ numberIn (refusalReply r) → record { refusal = m; next = echoed a q b } ≡ streamStarted a q b
+  pub start-refused : (x : Start) (r : Refusal) (m : ℕ) → x ≡ Start.Refused r → x ≡ startStreamAt a q b → m ≡ numberIn (refusalReply r)
+      → record { refusal = m; next = echoed a q b } ≡ streamStarted a q b
   unfolding streamStarted
   start-refused x r m e f h =
       ap (λ (y : ℕ). record { refusal = y; next = echoed a q b }) h ∙ ap (λ (y : Start). record { refusal = numberIn (streamStartedReply y); next = echoed a q b }) (sym e ∙ f)
 
 module _ (s : Stream) (source memory : List ℕ) where
-  pub stream-no : (m : ℕ) → State.Refused m ≡ stateOf s → (record { refusal = m; taken = 0; written = 0; status = 0; next = s } ≡ streamed s source (length memory)) × (memory ≡ streamedMemory s source memory)
+  pub stream-no : (m : ℕ) → State.Refused m ≡ stateOf s
+      → (record { refusal = m; taken = 0; written = 0; status = 0; next = s } ≡ streamed s source (length memory)) × (memory ≡ streamedMemory s source memory)
   unfolding streamed streamedMemory
   stream-no m q = (ap (streamedFrom s source (length memory)) q, ap (memoryFrom source memory) q)
 
-  pub stream-moved : (d : StreamingDecoder) → State.Sound d ≡ stateOf s → (x : Answer) (taken written : ℕ) (status : Status) (next : StreamingDecoder)
-      → x ≡ Answer.Moved taken written status next → x ≡ streamAt d source (length memory) → (n : ℕ) → n ≡ statusNumber status → (t : Stream) → t ≡ outside next → (out : List ℕ) → out ≡ streamMemory d source memory
+  pub stream-moved : (d : StreamingDecoder) → State.Fits d ≡ stateOf s → (x : Answer) (taken written : ℕ) (status : Status) (next : StreamingDecoder)
+      → x ≡ Answer.Moved taken written status next → x ≡ streamAt d source (length memory) → (n : ℕ) → n ≡ statusNumber status → (t : Stream) → t ≡ outside next
+      → (out : List ℕ) → out ≡ streamMemory d source memory
       → (record { refusal = 0; taken = taken; written = written; status = n; next = t } ≡ streamed s source (length memory)) × (out ≡ streamedMemory s source memory)
   unfolding streamed streamedMemory
   stream-moved d q x taken written status next e f n h t g out w = (
@@ -99,7 +96,8 @@ module _ (s : Stream) (source memory : List ℕ) where
     w ∙ ap (memoryFrom source memory) q,
   )
 
-  pub stream-refused : (d : StreamingDecoder) → State.Sound d ≡ stateOf s → (x : Answer) (r : Refusal) (next : StreamingDecoder) → x ≡ Answer.Refused r next → x ≡ streamAt d source (length memory)
+  pub stream-refused : (d : StreamingDecoder) → State.Fits d ≡ stateOf s → (x : Answer) (r : Refusal) (next : StreamingDecoder) → x ≡ Answer.Refused r next
+      → x ≡ streamAt d source (length memory)
       → (m : ℕ) → m ≡ numberIn (refusalReply r) → (out : List ℕ) → out ≡ streamMemory d source memory
       → (record { refusal = m; taken = 0; written = 0; status = 0; next = s } ≡ streamed s source (length memory)) × (out ≡ streamedMemory s source memory)
   unfolding streamed streamedMemory
@@ -115,14 +113,14 @@ module _ (s : Stream) where
   unfolding endTold
   end-no m q = ap (λ (x : State). ended (endFrom x)) q
 
-  pub end-complete : (d : StreamingDecoder) → State.Sound d ≡ stateOf s → (x : End) → x ≡ End.Complete → x ≡ endAt d → record { refusal = 0; outstanding = 0 } ≡ ended (endTold s)
+  pub end-complete : (d : StreamingDecoder) → State.Fits d ≡ stateOf s → (x : End) → x ≡ End.Complete → x ≡ endAt d → record { refusal = 0; outstanding = 0 } ≡ ended (endTold s)
   unfolding endTold
   end-complete d q x e f = ap (λ (y : End). ended (endedReply y)) (sym e ∙ f) ∙ ap (λ (y : State). ended (endFrom y)) q
 
-  pub end-refused : (d : StreamingDecoder) → State.Sound d ≡ stateOf s → (x : End) (r : Refusal) (next : StreamingDecoder) → x ≡ End.Refused r next → x ≡ endAt d
-      → (z : Packed) → z ≡ packed (refusalReply r) → record { refusal = z .refusal; outstanding = z .position } ≡ ended (endTold s)
+  pub end-refused : (d : StreamingDecoder) → State.Fits d ≡ stateOf s → (x : End) (r : Refusal) (next : StreamingDecoder) → x ≡ End.Refused r next → x ≡ endAt d
+      → (m : ℕ) → m ≡ numberIn (refusalReply r) → (z : Details) → z ≡ details (refusalReply r) → record { refusal = m; outstanding = z .first } ≡ ended (endTold s)
   unfolding endTold
-  end-refused d q x r next e f z h =
-      ap (λ (y : Packed). record { refusal = y .refusal; outstanding = y .position }) h
+  end-refused d q x r next e f m h z g =
+      ap₂ (λ (n : ℕ) (y : Details). record { refusal = n; outstanding = y .first }) h g
       ∙ ap (λ (y : End). ended (endedReply y)) (sym e ∙ f)
       ∙ ap (λ (y : State). ended (endFrom y)) q

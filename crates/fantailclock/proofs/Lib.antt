@@ -2,3 +2,4 @@ pub mod Told
 pub mod Front
 pub mod Hosted
 pub mod Flowing
+pub mod OwnNo

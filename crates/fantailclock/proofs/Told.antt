@@ -1,18 +1,17 @@
 -- What a reply is as numbers, for each case of an answer.
-use mathlib.Core.Path.{_≡_, refl, sym, ap, ap₂, _∙_}
+use mathlib.Core.Path.{_≡_, refl, sym, ap, _∙_}
 use mathlib.Core.Bool.{Bool, true, false, cond}
-use mathlib.Core.List.{List, [], _∷_, _++_}
+use mathlib.Core.List.{List, []}
 use Prim.Native.Nat.{ℕ, _≤_, _<_}
 use native.Mathlib.Omega.{arith}
 use borrow.Author.Tests.{le-leb, lt-leb}
 use lib.Dec.{leb}
-use lib.ListN.{length, take, drop}
-use lib.Seq.{length-take-le}
+use lib.ListN.{length, take}
 use Rattle.bits.specs.Memory.{front}
-use Rattle.alphabet.specs.Questions.{Reply, accepted, refused, refusalReply, by, numberIn}
+use Rattle.alphabet.specs.Questions.{Reply, accepted, refusalReply, numberIn, valueIn}
 use Rattle.alphabet.specs.Symbols.{coding}
-use Rattle.alphabet.specs.Names.{displayName, nameOf, numberOf, known, kindOf, numbered, namedAt}
-use Rattle.alphabet.specs.Guess.{guessOf, soundGuesser, guessAt}
+use Rattle.alphabet.specs.Names.{displayName, nameOf, numberOf, namedAt}
+use Rattle.alphabet.specs.Guess.{soundGuesser}
 use Rattle.alphabet.specs.Answers.{guesserUpdatedReply, guesserUpdateTold, guessedReply, guessTold}
 use Rattle.alphabet.specs.declared.kind.AlphabetType.{AlphabetType}
 use Rattle.alphabet.specs.declared.kind.Name.{Name}
@@ -23,12 +22,13 @@ use Rattle.alphabet.specs.declared.guesser.GuesserUpdated.{GuesserUpdated}
 use Rattle.alphabet.specs.declared.guesser.Guessed.{Guessed}
 use Rattle.alphabet.proofs.Laws.{lawful}
 use Rattle.alphabet.proofs.Calls.{is-refused, spelt, named-kind, named-refused, sound-range}
-use Rattle.fantailclock.specs.declared.shapes.Number.{Number}
-use Rattle.fantailclock.specs.declared.shapes.Count.{Count}
 use Rattle.fantailclock.specs.declared.shapes.Guesser.{Guesser}
-use Rattle.fantailclock.specs.declared.shapes.Guessing.{Guessing}
 use Rattle.fantailclock.specs.Shapes.{number, count, guesser, guessing}
-use Rattle.fantailclock.specs.Kinds.{bitsTold, containsTold, nameTold, nameMemory, guessedTold}
+use Rattle.fantailclock.specs.Kinds.{bitsTold, containsTold, nameTold, nameMemory}
+
+-- a refusal has no value of an accepted call
+pub no-value : (q : Refusal) → 0 ≡ valueIn 0 (refusalReply q)
+no-value q = sym (ap (valueIn 0) (is-refused q))
 
 -- ---- calls on alphabets
 
@@ -39,7 +39,8 @@ module _ (n : ℕ) where
       let s = named-kind n k e in
       rw (s .0, s .1) (ap (λ (x : ℕ). record { refusal = 0; value = x }) q)
 
-  pub contains-known : (k : AlphabetType) (v : ℕ) (b : Bool) → namedAt n ≡ Named.Kind k → b ≡ coding k .member v → record { refusal = 0; value = cond b 1 0 } ≡ number (containsTold n v)
+  pub contains-known : (k : AlphabetType) (v : ℕ) (b : Bool) → namedAt n ≡ Named.Kind k → b ≡ coding k .member v
+      → record { refusal = 0; value = cond b 1 0 } ≡ number (containsTold n v)
   unfolding containsTold
   contains-known k v b e q =
       let s = named-kind n k e in
@@ -62,7 +63,8 @@ module _ (n : ℕ) where
       let no : leb (length (displayName k)) (length memory) ≡ false = lt-leb (length (displayName k)) (length memory) (rw (q, spelt k .counted) at h) in
       (rw (s .0, s .1, no), rw (s .0, s .1, no))
 
-  pub name-fits : (k : AlphabetType) (name : Name) (memory out : List ℕ) → namedAt n ≡ Named.Kind k → name ≡ nameOf k → name .len ≤ length memory → out ≡ front (take (name .len) (name .bytes)) memory
+  pub name-fits : (k : AlphabetType) (name : Name) (memory out : List ℕ) → namedAt n ≡ Named.Kind k → name ≡ nameOf k → name .len ≤ length memory
+      → out ≡ front (take (name .len) (name .bytes)) memory
       → (record { refusal = 0; count = name .len } ≡ count (nameTold n (length memory))) × (out ≡ nameMemory n memory)
   unfolding nameTold nameMemory
   name-fits k name memory out e q h p =
@@ -108,10 +110,12 @@ pub guess-big : (state : Guesser) → 255 < state .mask → record { refusal = 1
 guess-big state h = rw (big-unsound (guesser state) h)
 
 module _ (state : Guesser) (reply : Reply) where
-  pub update-next : (u : GuesserUpdated) (g : AlphabetGuesser) → u ≡ GuesserUpdated.Next g → guesserUpdatedReply u ≡ reply → record { refusal = 0; next = record { mask = g .acc } } ≡ guessing state reply
+  pub update-next : (u : GuesserUpdated) (g : AlphabetGuesser) → u ≡ GuesserUpdated.Next g → guesserUpdatedReply u ≡ reply
+      → record { refusal = 0; next = record { mask = g .acc } } ≡ guessing state reply
   update-next u g e f = ap (guessing state) (sym (ap guesserUpdatedReply e) ∙ f)
 
-  pub update-refused : (u : GuesserUpdated) (q : Refusal) (g : AlphabetGuesser) (m : ℕ) → u ≡ GuesserUpdated.Refused q g → guesserUpdatedReply u ≡ reply → m ≡ numberIn (refusalReply q)
+  pub update-refused : (u : GuesserUpdated) (q : Refusal) (g : AlphabetGuesser) (m : ℕ) → u ≡ GuesserUpdated.Refused q g → guesserUpdatedReply u ≡ reply
+      → m ≡ numberIn (refusalReply q)
       → record { refusal = m; next = state } ≡ guessing state reply
   update-refused u q g m e f h =
       ap (λ (x : ℕ). record { refusal = x; next = state }) h ∙ ap (guessing state) (sym (is-refused q) ∙ sym (ap guesserUpdatedReply e) ∙ f)

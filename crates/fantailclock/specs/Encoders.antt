@@ -60,7 +60,7 @@ stateOf e =
     ask known (e .alphabet) else State.Refused 8 then
     ask fitting e else State.Refused 1 then
     ask leb (e .«pending_bits») 255 && leb (e .pending) 255 else State.Refused 1 then
-    State.Sound (inside e)
+    State.Fits (inside e)
 
 -- `fc_encoder_update`
 abbrev pub updatedBy : Encoder → Answer → Updated
@@ -69,14 +69,14 @@ updatedBy e (answer.Refused q s) = record { refusal = numberIn (refusalReply q);
 
 abbrev pub updatedFrom : Encoder → List ℕ → ℕ → State → Updated
 updatedFrom e piece room (State.Refused number) = record { refusal = number; count = 0; next = e }
-updatedFrom e piece room (State.Sound s) = updatedBy e (updateAt s piece room)
+updatedFrom e piece room (State.Fits s) = updatedBy e (updateAt s piece room)
 
 unfoldable pub encoderUpdated : Encoder → List ℕ → ℕ → Updated
 encoderUpdated e piece room = updatedFrom e piece room (stateOf e)
 
 abbrev pub updateMemoryFrom : List ℕ → List ℕ → State → List ℕ
 updateMemoryFrom piece memory (State.Refused number) = memory
-updateMemoryFrom piece memory (State.Sound s) = updateMemory s piece memory
+updateMemoryFrom piece memory (State.Fits s) = updateMemory s piece memory
 
 unfoldable pub encoderUpdateMemory : Encoder → List ℕ → List ℕ → List ℕ
 encoderUpdateMemory e piece memory = updateMemoryFrom piece memory (stateOf e)
@@ -84,14 +84,14 @@ encoderUpdateMemory e piece memory = updateMemoryFrom piece memory (stateOf e)
 -- `fc_encoder_finalize`
 abbrev pub finalizeFrom : ℕ → State → Reply
 finalizeFrom room (State.Refused number) = refused number []
-finalizeFrom room (State.Sound s) = finalizedReply (finalizeAt s room)
+finalizeFrom room (State.Fits s) = finalizedReply (finalizeAt s room)
 
 unfoldable pub finalizeTold : Encoder → ℕ → Reply
 finalizeTold e room = finalizeFrom room (stateOf e)
 
 abbrev pub finalizeMemoryFrom : List ℕ → State → List ℕ
 finalizeMemoryFrom memory (State.Refused number) = memory
-finalizeMemoryFrom memory (State.Sound s) = finalizeMemory s memory
+finalizeMemoryFrom memory (State.Fits s) = finalizeMemory s memory
 
 unfoldable pub encoderFinalizeMemory : Encoder → List ℕ → List ℕ
 encoderFinalizeMemory e memory = finalizeMemoryFrom memory (stateOf e)

@@ -2,3 +2,4 @@ pub mod Shapes
 pub mod Kinds
 pub mod Encoders
 pub mod Streams
+pub mod Asked

@@ -9,6 +9,7 @@ use Rattle.fantailclock.specs.declared.shapes.Count.{Count}
 use Rattle.fantailclock.specs.declared.shapes.Range.{Range}
 use Rattle.fantailclock.specs.declared.shapes.Packed.{Packed}
 use Rattle.fantailclock.specs.declared.shapes.Ended.{Ended}
+use Rattle.fantailclock.specs.declared.shapes.Details.{Details}
 use Rattle.fantailclock.specs.declared.shapes.Guesser.{Guesser}
 use Rattle.fantailclock.specs.declared.shapes.Guessing.{Guessing}
 
@@ -23,6 +24,10 @@ count reply = record { refusal = numberIn reply; count = valueIn 0 reply }
 -- a byte range
 abbrev pub range : Reply → Range
 range reply = record { refusal = numberIn reply; start = valueIn 0 reply; end = valueIn 1 reply }
+
+-- what a refusal tells beside its number
+abbrev pub details : Reply → Details
+details reply = record { first = detailIn 0 reply; second = detailIn 1 reply }
 
 -- bytes written, or position and byte of a non-member
 abbrev pub packed : Reply → Packed

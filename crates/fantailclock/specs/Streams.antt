@@ -28,7 +28,7 @@ unfoldable pub stateOf : Stream → State
 stateOf s =
     ask known (s .alphabet) else State.Refused 8 then
     ask leb (s .skip) 255 && leb (s .«pending_bits») 255 && leb (s .pending) 255 else State.Refused 1 then
-    State.Sound (inside s)
+    State.Fits (inside s)
 
 -- `fc_stream_new`: a refused start echoes its arguments
 unfoldable pub streamStarted : ℕ → ℕ → ℕ → StreamStarted
@@ -45,14 +45,14 @@ streamedBy s (answer.Refused q next) = record { refusal = numberIn (refusalReply
 
 abbrev pub streamedFrom : Stream → List ℕ → ℕ → State → Streamed
 streamedFrom s source room (State.Refused number) = record { refusal = number; taken = 0; written = 0; status = 0; next = s }
-streamedFrom s source room (State.Sound d) = streamedBy s (streamAt d source room)
+streamedFrom s source room (State.Fits d) = streamedBy s (streamAt d source room)
 
 unfoldable pub streamed : Stream → List ℕ → ℕ → Streamed
 streamed s source room = streamedFrom s source room (stateOf s)
 
 abbrev pub memoryFrom : List ℕ → List ℕ → State → List ℕ
 memoryFrom source memory (State.Refused number) = memory
-memoryFrom source memory (State.Sound d) = streamMemory d source memory
+memoryFrom source memory (State.Fits d) = streamMemory d source memory
 
 unfoldable pub streamedMemory : Stream → List ℕ → List ℕ → List ℕ
 streamedMemory s source memory = memoryFrom source memory (stateOf s)
@@ -60,7 +60,7 @@ streamedMemory s source memory = memoryFrom source memory (stateOf s)
 -- `fc_stream_end`
 abbrev pub endFrom : State → Reply
 endFrom (State.Refused number) = refused number []
-endFrom (State.Sound d) = endedReply (endAt d)
+endFrom (State.Fits d) = endedReply (endAt d)
 
 unfoldable pub endTold : Stream → Reply
 endTold s = endFrom (stateOf s)

@@ -4,6 +4,7 @@ use crate::shapes::EncoderStarted;
 use crate::shapes::Packed;
 use crate::shapes::Range;
 use crate::shapes::Updated;
+use crate::shapes::details_of;
 use crate::shapes::number_of;
 use alphabet::AlphabetType;
 use alphabet::Named;
@@ -19,50 +20,23 @@ ghost use mathlib.Core.Path.{_≡_};
 ghost use mathlib.Core.Bool.{true};
 ghost use lib.ListN.{length};
 ghost use Rattle.alphabet.specs.Names.{kindOf};
-ghost use mathlib.Core.List.{[]};
-ghost use Rattle.alphabet.specs.Questions.{refused, refusalReply};
+ghost use Rattle.alphabet.specs.Questions.{refusalReply};
 ghost use Rattle.packing.specs.Encode.{encodeAt, encodeMemory};
 ghost use Rattle.packing.specs.Range.{rangeAt};
 ghost use Rattle.packing.specs.Answers.{encodedReply, rangeReply};
 ghost use Rattle.fantailclock.specs.Shapes.{range, packed};
 ghost use Rattle.fantailclock.specs.Encoders.{inside, fitting, outside, stateOf, encoderStarted, encoderUpdated, encoderUpdateMemory, finalizeTold, encoderFinalizeMemory};
 
-// A refusal by a number alone.
-fn bare(number: u64) -> Packed
-    ensures { λ r. ⌜ r ≡ packed (refused number []) ⌝ }
-{
-    Packed {
-        refusal: number,
-        count: 0,
-        position: 0,
-        byte: 0,
-    }
-}
-
-// A refusal as numbers, with its values.
-pub fn told(refusal: Refusal) -> Packed
+// A refusal as numbers, with its details.
+fn refused_by(refusal: Refusal) -> Packed
     ensures { λ r. ⌜ r ≡ packed (refusalReply refusal) ⌝ }
 {
-    match refusal {
-        Refusal::Unsound => bare(1),
-        Refusal::TooFar => bare(2),
-        Refusal::Uncovered => bare(3),
-        Refusal::ShortMemory => bare(4),
-        Refusal::NonMember { position, byte } => Packed {
-            refusal: 5,
-            count: 0,
-            position: position as u64,
-            byte: byte as u64,
-        },
-        Refusal::BadSkip => bare(6),
-        Refusal::Outstanding(bases) => Packed {
-            refusal: 7,
-            count: 0,
-            position: bases,
-            byte: 0,
-        },
-        Refusal::NoAlphabet => bare(8),
-        Refusal::TooWide => bare(9),
+    let details = details_of(refusal);
+    Packed {
+        refusal: number_of(refusal),
+        count: 0,
+        position: details.first,
+        byte: details.second,
     }
 }
 
@@ -98,7 +72,7 @@ pub extern "C" fn fc_encode_sequence(alphabet: u64, text: &[u8], out: &mut [u8])
             position: 0,
             byte: 0,
         },
-        Encoded::Refused(refusal) => told(refusal),
+        Encoded::Refused(refusal) => refused_by(refusal),
     }
 }
 
@@ -134,9 +108,10 @@ fn encoder_of(state: SequenceEncoder) -> Encoder
     }
 }
 
-// What a state's numbers stand for, or the number by which they are refused.
+// The state that a host's numbers stand for, where each fits its field, or the number by which they are refused. Whether it is
+// sound is asked by the call that gets it.
 pub enum State {
-    Sound(SequenceEncoder),
+    Fits(SequenceEncoder),
     Refused(u64),
 }
 
@@ -181,7 +156,7 @@ fn state_of(state: Encoder) -> State
         return State::Refused(1);
     }
     let first = first_in(state);
-    State::Sound(SequenceEncoder {
+    State::Fits(SequenceEncoder {
         alphabet: kind,
         seen: state.seen as usize,
         bits: state.pending_bits as u8,
@@ -226,7 +201,7 @@ pub extern "C" fn fc_encoder_update(state: Encoder, piece: &[u8], out: &mut [u8]
             count: 0,
             next: state,
         },
-        State::Sound(encoder) => match encoder.update(piece, out) {
+        State::Fits(encoder) => match encoder.update(piece, out) {
             packing::Updated::Wrote(count, next) => Updated {
                 refusal: 0,
                 count: count as u64,
@@ -249,15 +224,20 @@ pub extern "C" fn fc_encoder_finalize(state: Encoder, out: &mut [u8]) -> Packed
 {
     let stands = state_of(state);
     match stands {
-        State::Refused(number) => bare(number),
-        State::Sound(encoder) => match encoder.finalize(out) {
+        State::Refused(number) => Packed {
+            refusal: number,
+            count: 0,
+            position: 0,
+            byte: 0,
+        },
+        State::Fits(encoder) => match encoder.finalize(out) {
             Finalized::Wrote(count) => Packed {
                 refusal: 0,
                 count: count as u64,
                 position: 0,
                 byte: 0,
             },
-            Finalized::Refused(refusal, _) => told(refusal),
+            Finalized::Refused(refusal, _) => refused_by(refusal),
         },
     }
 }

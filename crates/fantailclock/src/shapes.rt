@@ -3,6 +3,7 @@
 use alphabet::Refusal;
 ghost use mathlib.Core.Path.{_≡_};
 ghost use Rattle.alphabet.specs.Questions.{refusalReply, numberIn};
+ghost use Rattle.fantailclock.specs.Shapes.{details};
 
 #[repr(C)]
 pub struct Number {
@@ -105,4 +106,36 @@ pub fn number_of(refusal: Refusal) -> u64
     ensures { λ r. ⌜ r ≡ numberIn (refusalReply refusal) ⌝ }
 {
     refusal.number() as u64
+}
+
+// What a refusal tells beside its number: a non-member's position and byte, or the bases outstanding; zeros where it tells nothing.
+pub struct Details {
+    pub first: u64,
+    pub second: u64,
+}
+
+pub fn details_of(refusal: Refusal) -> Details
+    ensures { λ r. ⌜ r ≡ details (refusalReply refusal) ⌝ }
+{
+    let none = Details {
+        first: 0,
+        second: 0,
+    };
+    match refusal {
+        Refusal::Unsound => none,
+        Refusal::TooFar => none,
+        Refusal::Uncovered => none,
+        Refusal::ShortMemory => none,
+        Refusal::NonMember { position, byte } => Details {
+            first: position as u64,
+            second: byte as u64,
+        },
+        Refusal::BadSkip => none,
+        Refusal::Outstanding(bases) => Details {
+            first: bases,
+            second: 0,
+        },
+        Refusal::NoAlphabet => none,
+        Refusal::TooWide => none,
+    }
 }

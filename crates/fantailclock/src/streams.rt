@@ -1,9 +1,9 @@
 // The stream.
-use crate::encoders::told;
 use crate::shapes::Ended;
 use crate::shapes::Stream;
 use crate::shapes::StreamStarted;
 use crate::shapes::Streamed;
+use crate::shapes::details_of;
 use crate::shapes::number_of;
 use alphabet::Named;
 use alphabet::kind_of_number;
@@ -15,9 +15,10 @@ ghost use Rattle.streaming.specs.Answers.{statusNumber};
 ghost use Rattle.fantailclock.specs.Shapes.{ended};
 ghost use Rattle.fantailclock.specs.Streams.{outside, stateOf, streamStarted, streamed, streamedMemory, endTold};
 
-// What a state's numbers stand for, or the number by which they are refused.
+// The state that a host's numbers stand for, where each fits its field, or the number by which they are refused. Whether it is
+// sound is asked by the call that gets it.
 pub enum State {
-    Sound(StreamingDecoder),
+    Fits(StreamingDecoder),
     Refused(u64),
 }
 
@@ -51,7 +52,7 @@ fn state_of(state: Stream) -> State
     if 255 < state.pending {
         return State::Refused(1);
     }
-    State::Sound(StreamingDecoder {
+    State::Fits(StreamingDecoder {
         alphabet: kind,
         skip: state.skip as u8,
         budget: state.budget,
@@ -106,7 +107,7 @@ pub extern "C" fn fc_stream_read(state: Stream, source: &[u8], out: &mut [u8]) -
             status: 0,
             next: state,
         },
-        State::Sound(stream) => match stream.read(source, out) {
+        State::Fits(stream) => match stream.read(source, out) {
             streaming::Streamed::Moved {
                 taken,
                 written,
@@ -141,16 +142,16 @@ pub extern "C" fn fc_stream_end(state: Stream) -> Ended
             refusal: number,
             outstanding: 0,
         },
-        State::Sound(stream) => match stream.end() {
+        State::Fits(stream) => match stream.end() {
             streaming::Ended::Complete => Ended {
                 refusal: 0,
                 outstanding: 0,
             },
             streaming::Ended::Refused(refusal, _) => {
-                let answer = told(refusal);
+                let details = details_of(refusal);
                 Ended {
-                    refusal: answer.refusal,
-                    outstanding: answer.position,
+                    refusal: number_of(refusal),
+                    outstanding: details.first,
                 }
             }
         },

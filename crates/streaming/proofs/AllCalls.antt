@@ -18,7 +18,8 @@ use Rattle.bits.specs.Packing.{bytesFor}
 use Rattle.bits.proofs.Tabulated.{tabulate-add, tabulate-ext}
 use Rattle.streaming.specs.declared.decoder.Streamed.{Streamed}
 use Rattle.streaming.specs.Stream.{freshStream}
-use Rattle.streaming.specs.Count.{Place, begin, takenBy, Feed, offered, reached, placeAfter, placeAfterAll, basesBetween, Fed, tookBy, nextBy, fedBy, fedAll, flowing, standsFor, fedAt}
+use Rattle.streaming.specs.Count.{Place, begin, takenBy, Feed, offered, reached, placeAfter, placeAfterAll, basesBetween, Fed, tookBy, nextBy, fedBy, fedAll}
+use Rattle.streaming.specs.Count.{flowing, standsFor, fedAt}
 use Rattle.streaming.proofs.Greatest.{Largest, greatest-largest}
 use Rattle.streaming.proofs.Feeding.{Reachable, Goes, goes}
 
@@ -47,7 +48,8 @@ module _ (kind : AlphabetType) (q budget : ℕ) (lent : List ℕ) where
       one i l = let place : q + 0 * W + (k + i) * W ≡ q + k * W + i * W = omega (arith, zero-mul W, add-mul k i W) in ap (λ (x : ℕ). word L x W) place
 
   -- one call more
-  fed-more : q < 8 → (p : Place) (c : Feed) → Reachable kind q budget lent p → fedBy lent (fedAt kind q budget lent p) c ≡ fedAt kind q budget lent (placeAfter A q budget lent p (c .given) (c .room))
+  fed-more : q < 8 → (p : Place) (c : Feed) → Reachable kind q budget lent p
+      → fedBy lent (fedAt kind q budget lent p) c ≡ fedAt kind q budget lent (placeAfter A q budget lent p (c .given) (c .room))
   unfolding fedBy fedAt
   fed-more small p c g = λ i.
       record {
@@ -72,7 +74,8 @@ module _ (kind : AlphabetType) (q budget : ℕ) (lent : List ℕ) where
       count : p .k + (next .k - p .k) ≡ next .k
       count = omega (arith, r .grows .0)
 
-  pub fed-from : q < 8 → (cs : List Feed) (p : Place) → Reachable kind q budget lent p → fedAll lent (fedAt kind q budget lent p) cs ≡ fedAt kind q budget lent (placeAfterAll A q budget lent p cs)
+  pub fed-from : q < 8 → (cs : List Feed) (p : Place) → Reachable kind q budget lent p
+      → fedAll lent (fedAt kind q budget lent p) cs ≡ fedAt kind q budget lent (placeAfterAll A q budget lent p cs)
   unfolding fedAll placeAfterAll
   fed-from small [] p g = refl
   fed-from small (c ∷ cs) p g =
@@ -115,7 +118,8 @@ module _ (kind : AlphabetType) (q budget : ℕ) (lent : List ℕ) where
           }
 
   -- THE LIST: for any skip below 8, any budget, any lent bytes, whatever the pieces of source and memory
-  pub feeding : q < 8 → (cs : List Feed) → fedAll lent (record { state = freshStream kind q budget; taken = 0; bases = [] }) cs ≡ fedAt kind q budget lent (placeAfterAll A q budget lent (begin q) cs)
+  pub feeding : q < 8 → (cs : List Feed)
+      → fedAll lent (record { state = freshStream kind q budget; taken = 0; bases = [] }) cs ≡ fedAt kind q budget lent (placeAfterAll A q budget lent (begin q) cs)
   feeding small cs = ap (λ (f : Fed). fedAll lent f cs) fed-fresh ∙ fed-from small cs (begin q) begins
 
   pub all-reachable : q < 8 → (cs : List Feed) (p : Place) → Reachable kind q budget lent p → Reachable kind q budget lent (placeAfterAll A q budget lent p cs)

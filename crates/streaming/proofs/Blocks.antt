@@ -11,12 +11,19 @@ use lib.Pow.{pow-pos, pow-add, pow-mono}
 use lib.Seq.{length-take-le, take-at, drop-at, drop-cons, drop-drop, set-at}
 use Rattle.bits.specs.Tables.{tabulate, at}
 use Rattle.bits.specs.Streams.{bitAt, word}
+use Rattle.bits.proofs.Shifts.{field-is, code-lt}
 use Rattle.bits.proofs.Words.{word-add, word-lt, word-whole, bit-lt}
 use Rattle.bits.proofs.Tabulated.{length-tabulate, getD-tabulate, tabulate-add, tabulate-ext}
 use Rattle.streaming.specs.declared.decoder.StreamingDecoder.{StreamingDecoder}
 use Rattle.streaming.specs.Stream.{readsBy, sourceBits, used}
 use Rattle.streaming.specs.Flow.{Level, baseAt, filled, blockBase, withBases, withBlock}
 use Rattle.streaming.proofs.Levels.{level-field}
+
+-- a field of a number, as an index into a table of 32 entries
+pub code-is : {r p b : ℕ} (x : ℕ) → p < 64 → b ≤ 5 → r ≡ x / 2 ^ (p % 64) % 2 ^ (b % 64) → (r ≡ x / 2 ^ p % 2 ^ b) × (r < 32)
+code-is {r} {p} {b} x h l e =
+    let is : r ≡ x / 2 ^ p % 2 ^ b = e ∙ field-is h {b = b} (omega arith) x in
+    (is, omega (arith, is, code-lt (x / 2 ^ p) b l))
 
 -- ---- bytes gathered behind a number
 
@@ -62,7 +69,8 @@ module _ (table : List ℕ) (bits have b n : ℕ) (out₀ : List ℕ) where
       ap (at table) (f ∙ ap (λ (x : ℕ). bits / 2 ^ x % 2 ^ b) place)
 
   -- base i is stored
-  pub spread-more : (i : ℕ) (out : List ℕ) (v : ℕ) → n + i < length out₀ → v ≡ blockBase table bits have b i → out ≡ withBases i table bits have b n out₀ → set out (n + i) v ≡ withBases (i + 1) table bits have b n out₀
+  pub spread-more : (i : ℕ) (out : List ℕ) (v : ℕ) → n + i < length out₀ → v ≡ blockBase table bits have b i → out ≡ withBases i table bits have b n out₀
+      → set out (n + i) v ≡ withBases (i + 1) table bits have b n out₀
   unfolding tabulate
   spread-more i out v h e q =
       let f : ℕ → ℕ = blockBase table bits have b in

@@ -45,7 +45,8 @@ module _ (s : StreamingDecoder) (source : List ℕ) (eight : readsBy s .width �
         rw left at (level-drop r 1 (omega (arith, one-mul W)) (e ∙ ap (λ (x : ℕ). bits % 2 ^ x) (sym left)))
 
   -- the count is the greatest: all that is allowed, or all that the source has bytes for
-  pub carry-count : {acc have n : ℕ} (from limit room : ℕ) → s .bits < 8 → have < 8 → Level s source acc have (from + n) n → limit ≡ min (s .budget) room → n ≡ min limit (length source - from) → n ≡ basesOf s source room
+  pub carry-count : {acc have n : ℕ} (from limit room : ℕ) → s .bits < 8 → have < 8 → Level s source acc have (from + n) n → limit ≡ min (s .budget) room
+      → n ≡ min limit (length source - from) → n ≡ basesOf s source room
   carry-count {acc} {have} {n} from limit room small few r e f = go (decLt n limit)
     where
       go : Dec (n < limit) → n ≡ basesOf s source room
@@ -55,7 +56,8 @@ module _ (s : StreamingDecoder) (source : List ℕ) (eight : readsBy s .width �
 -- ---- bases that are bytes as they come
 
 -- one byte more is copied
-pub copy-more : (source : List ℕ) (from i : ℕ) (out out₀ : List ℕ) → i < length out₀ → out ≡ withRun source from i out₀ → set out i (at source (from + i)) ≡ withRun source from (i + 1) out₀
+pub copy-more : (source : List ℕ) (from i : ℕ) (out out₀ : List ℕ) → i < length out₀ → out ≡ withRun source from i out₀
+    → set out i (at source (from + i)) ≡ withRun source from (i + 1) out₀
 unfolding withRun
 copy-more source from i out out₀ h e = rw (e, add-one i) (store i (λ j. at source (from + j)) out₀ (at source (from + i)) h refl)
 
@@ -80,7 +82,8 @@ module _ (s : StreamingDecoder) (source : List ℕ) (eight : readsBy s .width �
       ∙ mod-eq-of-lt (bytes (from + n)))
 
   -- and they are the bases
-  pub copy-memory : Bytes source → ((c : ℕ) → readsBy s .symbol c ≡ c) → (n m : ℕ) (memory : List ℕ) {new : List ℕ} → new ≡ withRun source from n memory → n ≡ m → new ≡ filled s source m memory
+  pub copy-memory : Bytes source → ((c : ℕ) → readsBy s .symbol c ≡ c) → (n m : ℕ) (memory : List ℕ) {new : List ℕ} → new ≡ withRun source from n memory → n ≡ m
+      → new ≡ filled s source m memory
   unfolding withRun filled
   copy-memory bytes same n m memory e f =
       e

@@ -25,11 +25,13 @@ pub record Most (s : StreamingDecoder) (source : List ℕ) (room n : ℕ) : Type
   pub suffices : takes s n ≤ length source
   pub most : (m : ℕ) → m ≤ s .budget → m ≤ room → takes s m ≤ length source → m ≤ n
 
-bits-short : (s : StreamingDecoder) (m : ℕ) (source : List ℕ) → length source < takes s m → (n : ℕ) → used s m ≡ used s n + 1 * readsBy s .width → s .bits + length source * 8 < used s n + readsBy s .width
+bits-short : (s : StreamingDecoder) (m : ℕ) (source : List ℕ) → length source < takes s m → (n : ℕ) → used s m ≡ used s n + 1 * readsBy s .width
+    → s .bits + length source * 8 < used s n + readsBy s .width
 unfolding takes
 bits-short s m source l n e = omega (arith, e, one-mul (readsBy s .width))
 
-takes-all : (s : StreamingDecoder) (n : ℕ) (source : List ℕ) → s .bits + length source * 8 < used s n + readsBy s .width → takes s n ≤ length source → readsBy s .width ≤ 8 → takes s n ≡ length source
+takes-all : (s : StreamingDecoder) (n : ℕ) (source : List ℕ) → s .bits + length source * 8 < used s n + readsBy s .width → takes s n ≤ length source
+    → readsBy s .width ≤ 8 → takes s n ≡ length source
 unfolding takes
 takes-all s n source l h w = omega arith
 
@@ -107,7 +109,8 @@ module _ (s : StreamingDecoder) (source : List ℕ) (room : ℕ) (sound : soundS
   -- ---- the status
 
   -- Hungry past the skip: with bases due and space for one, the source is used up and fewer bits pend than a base has
-  pub dry : basesOf s source room < s .budget → basesOf s source room < room → (takes s (basesOf s source room) ≡ length source) × (moved s source (basesOf s source room) .bits < readsBy s .width)
+  pub dry : basesOf s source room < s .budget → basesOf s source room < room
+      → (takes s (basesOf s source room) ≡ length source) × (moved s source (basesOf s source room) .bits < readsBy s .width)
   unfolding moved
   dry due space = (used-up, few-pend)
     where

@@ -18,7 +18,8 @@ module _ (kind : AlphabetType) (q budget : ℕ) (lent : List ℕ) where
   abbrev pub ended : Place → Ended
   ended p = cond (complete budget p) Ended.Complete (Ended.Refused (by 7 ((budget - p .k) ∷ [])) (standsFor kind q budget lent p))
 
-  from : (d : Bool) (k : ℕ) → q < 8 → Reachable kind q budget lent (record { due = d; k = k }) → endAt (standsFor kind q budget lent (record { due = d; k = k })) ≡ ended (record { due = d; k = k })
+  from : (d : Bool) (k : ℕ) → q < 8 → Reachable kind q budget lent (record { due = d; k = k })
+      → endAt (standsFor kind q budget lent (record { due = d; k = k })) ≡ ended (record { due = d; k = k })
   unfolding endAt standsFor freshStream flowing
   from true k small g =
       let due : eqb q 0 ≡ false = ne-eqb q 0 (omega (arith, g .start refl .1)) in

@@ -259,7 +259,8 @@ module _ (kind : AlphabetType) (q budget : ℕ) (lent : List ℕ) where
   pub record Goes (p : Place) (m room : ℕ) (next : Place) : Type 0 where
     pub answer :
         streamAt (standsFor kind q budget lent p) (sourceOf lent (takenBy A q p) m) room
-        ≡ Streamed.Moved (takenBy A q next - takenBy A q p) (next .k - p .k) (cond (next .due) Hungry (statusOf (budget - next .k) (room - (next .k - p .k)))) (standsFor kind q budget lent next)
+        ≡ Streamed.Moved (takenBy A q next - takenBy A q p) (next .k - p .k) (cond (next .due) Hungry (statusOf (budget - next .k) (room - (next .k - p .k))))
+        (standsFor kind q budget lent next)
     pub wrote :
         streamWrites (standsFor kind q budget lent p) (sourceOf lent (takenBy A q p) m) (streamAt (standsFor kind q budget lent p) (sourceOf lent (takenBy A q p) m) room)
         ≡ basesBetween A q budget lent (p .k) (next .k - p .k)
@@ -319,7 +320,8 @@ module _ (kind : AlphabetType) (q budget : ℕ) (lent : List ℕ) where
       budgets : s .budget - n₁ ≡ budget - next
       budgets = omega (arith, r .budget-is, all)
 
-      same : movedBy s source room n₁ ≡ Streamed.Moved (bytesFor (upTo next) - taken) (next - p .k) (statusOf (budget - next) (room - (next - p .k))) (flowing kind q budget lent next)
+      same : movedBy s source room n₁
+          ≡ Streamed.Moved (bytesFor (upTo next) - taken) (next - p .k) (statusOf (budget - next) (room - (next - p .k))) (flowing kind q budget lent next)
       same = λ i.
           Streamed.Moved (bytes i) (count i) (statusOf (budgets i) (room - count i)) ((moved-is room r ∙ ap (flowing kind q budget lent) all) i)
 
@@ -348,7 +350,8 @@ module _ (kind : AlphabetType) (q budget : ℕ) (lent : List ℕ) where
       told : streamAt (freshStream kind q budget) (sourceOf lent 0 m) room ≡ Streamed.Moved 0 0 Hungry (freshStream kind q budget)
       told = rw (sound-fresh small, asks)
 
-  goes-due : (m room : ℕ) → q < 8 → 0 < q → (b : Bool) → ltb 0 (length (sourceOf lent 0 m)) ≡ b → Goes (record { due = true; k = 0 }) m room (placeAfter A q budget lent (record { due = true; k = 0 }) m room)
+  goes-due : (m room : ℕ) → q < 8 → 0 < q → (b : Bool) → ltb 0 (length (sourceOf lent 0 m)) ≡ b
+      → Goes (record { due = true; k = 0 }) m room (placeAfter A q budget lent (record { due = true; k = 0 }) m room)
   unfolding placeAfter offered takenBy standsFor
   goes-due m room small due true e =
       let some : 0 < length (sourceOf lent 0 m) = ltb-true 0 (length (sourceOf lent 0 m)) e in
@@ -365,7 +368,8 @@ module _ (kind : AlphabetType) (q budget : ℕ) (lent : List ℕ) where
       rw offers (goes-waits m room small due (omega arith))
 
   -- THE CALL: from any place that a list can reach, to the place that the count gives
-  goes-from : (d : Bool) (k m room : ℕ) → q < 8 → Reachable (record { due = d; k = k }) → Goes (record { due = d; k = k }) m room (placeAfter A q budget lent (record { due = d; k = k }) m room)
+  goes-from : (d : Bool) (k m room : ℕ) → q < 8 → Reachable (record { due = d; k = k })
+      → Goes (record { due = d; k = k }) m room (placeAfter A q budget lent (record { due = d; k = k }) m room)
   unfolding placeAfter standsFor takenBy
   goes-from true k m room small g =
       rw (g .start refl .0) (goes-due m room small (g .start refl .1) (ltb 0 (length (sourceOf lent 0 m))) refl)

@@ -72,7 +72,8 @@ module _ {s : StreamingDecoder} {source : List ℕ} {acc have taken n : ℕ} (r 
       }
 
   -- m bytes are taken at once
-  pub level-gather : (m : ℕ) → taken + m ≤ length source → {w : ℕ} → w ≡ acc * 2 ^ (m * 8) + word (bitAt 8 (at source)) (taken * 8) (m * 8) → Level s source w (have + m * 8) (taken + m) n
+  pub level-gather : (m : ℕ) → taken + m ≤ length source → {w : ℕ} → w ≡ acc * 2 ^ (m * 8) + word (bitAt 8 (at source)) (taken * 8) (m * 8)
+      → Level s source w (have + m * 8) (taken + m) n
   unfolding sourceBits
   level-gather m fits f =
       record {
@@ -123,7 +124,8 @@ module _ {s : StreamingDecoder} {source : List ℕ} {acc have taken n : ℕ} (r 
   level-acc few = r .held ∙ ap (word S (used s n)) (level-have few)
 
   -- the answer, given with the memory's length under another name
-  pub level-answer : {r : Streamed} {length′ : ℕ} (room : ℕ) → have < 8 → n ≡ basesOf s source room → r ≡ answeredBy s acc have taken n length′ → length′ ≡ room → r ≡ movedBy s source room (basesOf s source room)
+  pub level-answer : {r : Streamed} {length′ : ℕ} (room : ℕ) → have < 8 → n ≡ basesOf s source room → r ≡ answeredBy s acc have taken n length′ → length′ ≡ room
+      → r ≡ movedBy s source room (basesOf s source room)
   unfolding answeredBy movedBy moved
   level-answer {r = answer} room few e f g =
       f
@@ -160,7 +162,8 @@ module _ {s : StreamingDecoder} {source : List ℕ} {acc have taken n : ℕ} (r 
       })
 
 -- the same level under other names
-pub level-same : {s : StreamingDecoder} {source : List ℕ} {acc acc′ have have′ taken taken′ n : ℕ} → Level s source acc have taken n → acc′ ≡ acc → have′ ≡ have → taken′ ≡ taken → Level s source acc′ have′ taken′ n
+pub level-same : {s : StreamingDecoder} {source : List ℕ} {acc acc′ have have′ taken taken′ n : ℕ} → Level s source acc have taken n → acc′ ≡ acc → have′ ≡ have
+    → taken′ ≡ taken → Level s source acc′ have′ taken′ n
 level-same r e f g = rw (e, f, g) r
 
 -- ---- the memory

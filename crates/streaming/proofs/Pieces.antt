@@ -65,7 +65,8 @@ module _ (kind : AlphabetType) (q budget : ℕ) (lent : List ℕ) where
       apart true e = ne-eqb (length lent) 0 (λ z. omega (arith, ltb-true 0 q e, g .taken))
       apart false e = refl
 
-  last-call : (cs : List Feed) (last : Feed) (p : Place) → placeAfterAll A q budget lent p (cs ++ (last ∷ [])) ≡ placeAfter A q budget lent (placeAfterAll A q budget lent p cs) (last .given) (last .room)
+  last-call : (cs : List Feed) (last : Feed) (p : Place)
+      → placeAfterAll A q budget lent p (cs ++ (last ∷ [])) ≡ placeAfter A q budget lent (placeAfterAll A q budget lent p cs) (last .given) (last .room)
   unfolding placeAfterAll
   last-call [] last p = refl
   last-call (c ∷ cs) last p = last-call cs last (placeAfter A q budget lent p (c .given) (c .room))
@@ -74,7 +75,8 @@ module _ (kind : AlphabetType) (q budget : ℕ) (lent : List ℕ) where
   pub rest-leads : (p : Place) (m room : ℕ) → Reachable kind q budget lent p → length lent ≤ m → budget ≤ room → placeAfter A q budget lent p m room ≡ end
   rest-leads p m room g h l = rest-from (p .due) (p .k) m room g h l
 
-  pub pieces-place : q < 8 → (cs : List Feed) (last : Feed) → length lent ≤ last .given → budget ≤ last .room → placeAfterAll A q budget lent (begin q) (cs ++ (last ∷ [])) ≡ placeAfterAll A q budget lent (begin q) (last ∷ [])
+  pub pieces-place : q < 8 → (cs : List Feed) (last : Feed) → length lent ≤ last .given → budget ≤ last .room
+      → placeAfterAll A q budget lent (begin q) (cs ++ (last ∷ [])) ≡ placeAfterAll A q budget lent (begin q) (last ∷ [])
   unfolding placeAfterAll
   pieces-place small cs last h l =
       last-call cs last (begin q)

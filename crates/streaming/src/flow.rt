@@ -2,11 +2,12 @@
 use crate::decoder::Status;
 use crate::decoder::Streamed;
 use crate::decoder::StreamingDecoder;
-use crate::shift::code;
-use crate::shift::low;
-use crate::shift::push;
-use crate::shift::top;
 use alphabet::decoding_array;
+use bits::byte_at;
+use bits::field;
+use bits::least;
+use bits::low;
+use bits::push_byte;
 ghost use mathlib.Core.Bool.{true, _||_};
 ghost use mathlib.Core.Path.{_≡_};
 ghost use Prim.Native.Nat.{ℕ, _+_, _*_, _^_, _<_, _≤_, min};
@@ -44,16 +45,6 @@ pub(crate) fn opened(s: StreamingDecoder, source: &[u8]) -> Flow
         have,
         taken: 1,
     }
-}
-
-// The bases that budget and space allow.
-fn least(budget: u64, room: usize) -> usize
-    ensures { λ r. ⌜ r ≡ min budget room ⌝ }
-{
-    if budget < room as u64 {
-        return budget as usize;
-    }
-    room
 }
 
 // The status once the skip is done, from the budget and the space that are left.
@@ -104,7 +95,7 @@ fn gather(source: &[u8], from: usize, m: usize, acc: u64) -> u64
 {
     let mut bits = acc;
     for i in 0..m {
-        bits = push(bits, source[from + i]);
+        bits = push_byte(bits, source[from + i]);
     }
     bits
 }
@@ -117,7 +108,7 @@ fn spread(table: &[u8; 32], bits: u64, have: usize, b: usize, out: &mut [u8], n:
     let mut left = have + b * 8;
     for i in 0..8usize {
         left -= b;
-        out[n + i] = table[code(bits, left, b)];
+        out[n + i] = table[field(bits, left, b)];
     }
 }
 
@@ -131,7 +122,7 @@ pub(crate) fn pump(s: StreamingDecoder, source: &[u8], start: Flow, out: &mut [u
     let kind = s.alphabet;
     let b = kind.bits_per_symbol();
     let table = decoding_array(kind);
-    let limit = least(s.budget, out.len());
+    let limit = least(s.budget as usize, out.len());
     let mut acc = start.acc;
     let mut have = start.have;
     let mut taken = start.taken;
@@ -151,12 +142,12 @@ pub(crate) fn pump(s: StreamingDecoder, source: &[u8], start: Flow, out: &mut [u
             if taken == source.len() {
                 break;
             }
-            acc = push(acc, source[taken]);
+            acc = push_byte(acc, source[taken]);
             taken += 1;
             have += 8;
         }
         have -= b;
-        out[n] = table[code(acc, have, b)];
+        out[n] = table[field(acc, have, b)];
         acc = low(acc, have);
         n += 1;
     }
@@ -182,8 +173,8 @@ pub(crate) fn carry(s: StreamingDecoder, source: &[u8], start: Flow, out: &mut [
 {
     let have = start.have;
     let from = start.taken;
-    let limit = least(s.budget, out.len());
-    let count = least(limit as u64, source.len() - from);
+    let limit = least(s.budget as usize, out.len());
+    let count = least(limit, source.len() - from);
     let taken = from + count;
     if have == 0 {
         copy(source, from, count, out);
@@ -191,8 +182,8 @@ pub(crate) fn carry(s: StreamingDecoder, source: &[u8], start: Flow, out: &mut [
     }
     let mut acc = start.acc;
     for n in 0..count {
-        let bits = push(acc, source[from + n]);
-        out[n] = top(bits, have);
+        let bits = push_byte(acc, source[from + n]);
+        out[n] = byte_at(bits, have);
         acc = low(bits, have);
     }
     answered(s, acc, have, taken, count, out.len())

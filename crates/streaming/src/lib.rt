@@ -1,7 +1,6 @@
 // The stream: the bases of a stretch of packed bytes, fed in pieces.
 mod decoder;
 mod flow;
-mod shift;
 
 pub use decoder::Ended;
 pub use decoder::Status;

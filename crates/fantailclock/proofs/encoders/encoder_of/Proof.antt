@@ -22,10 +22,15 @@ cast-t12 : tie.Need-cast-t12
 cast-t12 c = search needs
 
 returns : tie.Need-returns
-returns c = outside-none (c .before .before .before .before .before .args .state) (c .before .before .before .before .number .result) (c .before .before .before .before .number .ensures) (c .enum-told .given .1)
+returns c =
+    let n = c .before .before .before .before in
+    outside-none (n .before .args .state) (n .number .result) (n .number .ensures) (c .enum-told .given .1)
 
 returns-2 : tie.Need-returns-2
-returns-2 c = outside-some (c .before .before .before .before .before .before .args .state) (c .before .before .before .before .before .number .result) _ _ (c .before .before .before .before .before .number .ensures) (c .before .first .given .1)
+returns-2 c =
+    let first = c .before in
+    let n = first .before .before .before .before in
+    outside-some (n .before .args .state) (n .number .result) _ _ (n .number .ensures) (first .first .given .1)
 
 pub encoder-of-spec : {M : Type 1} → statement M
 encoder-of-spec =

@@ -16,10 +16,13 @@ number-of-requires : tie.Need-number-of-requires
 number-of-requires c κs = search needs
 
 returns : tie.Need-returns
-returns c = range-bytes (c .before .before .before .byte-range-for-bases .result) _ _ _ (c .before .from .given .1) (c .before .before .before .byte-range-for-bases .ensures)
+returns c = let k = c .before .before .before .byte-range-for-bases in range-bytes (k .result) _ _ _ (c .before .from .given .1) (k .ensures)
 
 returns-2 : tie.Need-returns-2
-returns-2 c = range-refused (c .before .before .before .before .byte-range-for-bases .result) _ _ (c .number-of .result) (c .before .before .refusal .given .1) (c .before .before .before .before .byte-range-for-bases .ensures) (c .number-of .ensures)
+returns-2 c =
+    let no′ = c .before .before in
+    let k = no′ .before .before .byte-range-for-bases in
+    range-refused (k .result) _ _ (c .number-of .result) (no′ .refusal .given .1) (k .ensures) (c .number-of .ensures)
 
 pub fc-byte-range-for-bases-spec : {M : Type 1} → statement M
 fc-byte-range-for-bases-spec =

@@ -1,17 +1,30 @@
-use mathlib.Core.Path.{sym, _∙_}
+use mathlib.Core.Path.{_≡_, refl, sym, _∙_}
 use borrow.Author.Needs.{needs}
+use Rattle.fantailclock.specs.declared.encoders.State.{State}
+use Rattle.fantailclock.specs.Encoders.{stateOf}
 use Rattle.fantailclock.proofs.Hosted.{finalize-no, finalize-wrote, finalize-refused}
 use Rattle.fantailclock.proofs.encoders.fc_encoder_finalize.Statement.{statement}
 use Rattle.fantailclock.proofs.encoders.fc_encoder_finalize.Tie as tie
+
+-- ---- the places that the answers look back to
+
+-- the call
+abbrev call : tie.After-state-of → tie.Start
+call c = c .before .before
+
+-- the reading of the state, from the encoder's answer
+abbrev reading : tie.After-finalize → tie.After-state-of
+reading c = c .before .before .before .before .before
+
+-- the state that was handed to the encoder
+stands : (c : tie.After-finalize) → State.Fits (c .before .before .before .stands2 .given .0 .0) ≡ stateOf (call (reading c) .args .state)
+stands c = sym (c .before .before .before .stands2 .given .1) ∙ reading c .state-of .ensures
 
 state-of-requires : tie.Need-state-of-requires
 state-of-requires c κs = search needs
 
 enum-known-stands : tie.Need-enum-known-stands
 enum-known-stands c = search needs
-
-bare-requires : tie.Need-bare-requires
-bare-requires c κs = search needs
 
 enum-known-stands-2 : tie.Need-enum-known-stands-2
 enum-known-stands-2 c = search needs
@@ -25,23 +38,35 @@ enum-known-count c = search needs
 enum-known-refusal : tie.Need-enum-known-refusal
 enum-known-refusal c = search needs
 
-told-requires : tie.Need-told-requires
-told-requires c κs = search needs
+refused-by-requires : tie.Need-refused-by-requires
+refused-by-requires c κs = search needs
 
 returns : tie.Need-returns
-returns c = let a = c .before .before .before .before .before .before .args in finalize-no (a .state) (a .out .now) _ (c .bare .result) (sym (c .before .before .stands .given .1) ∙ c .before .before .before .before .state-of .ensures) (c .bare .ensures)
+returns c =
+    let r = c .before .before .before in
+    let a = call r .args in
+    finalize-no (a .state) (a .out .now) _ _ (sym (c .before .stands .given .1) ∙ r .state-of .ensures) refl
 
 same-length : tie.Need-same-length
 same-length c = search needs
 
 returns-2 : tie.Need-returns-2
-returns-2 c = let a = c .before .before .before .before .before .before .before .before .before .before .before .before .args in let k = c .before .before .before .before .before .finalize in finalize-wrote (a .state) (a .out .now) _ (sym (c .before .before .before .before .before .before .before .before .stands2 .given .1) ∙ c .before .before .before .before .before .before .before .before .before .before .state-of .ensures) (k .result) _ (c .before .count .given .1) (k .ensures .0) _ (k .ensures .1)
+returns-2 c =
+    let wrote = c .before in
+    let u = wrote .before .before .before .before in
+    let a = call (reading u) .args in
+    finalize-wrote (a .state) (a .out .now) _ (stands u) (u .finalize .result) _ (wrote .count .given .1) (u .finalize .ensures .0) _ (u .finalize .ensures .1)
 
 same-length-2 : tie.Need-same-length-2
 same-length-2 c = search needs
 
 returns-3 : tie.Need-returns-3
-returns-3 c = let a = c .before .before .before .before .before .before .before .before .before .before .before .before .before .args in let k = c .before .before .before .before .before .before .finalize in finalize-refused (a .state) (a .out .now) _ (sym (c .before .before .before .before .before .before .before .before .before .stands2 .given .1) ∙ c .before .before .before .before .before .before .before .before .before .before .before .state-of .ensures) (k .result) _ _ (c .before .before .refusal .given .1) (k .ensures .0) (c .told .result) (c .told .ensures) _ (k .ensures .1)
+returns-3 c =
+    let no′ = c .before .before in
+    let u = no′ .before .before .before .before in
+    let a = call (reading u) .args in
+    finalize-refused (a .state) (a .out .now) _ (stands u) (u .finalize .result) _ _ (no′ .refusal .given .1) (u .finalize .ensures .0) (c .refused-by .result)
+    (c .refused-by .ensures) _ (u .finalize .ensures .1)
 
 pub fc-encoder-finalize-spec : {M : Type 1} → statement M
 fc-encoder-finalize-spec =
@@ -49,12 +74,11 @@ fc-encoder-finalize-spec =
     (tie.spec
     state-of-requires
     enum-known-stands
-    bare-requires
     enum-known-stands-2
     finalize-requires
     enum-known-count
     enum-known-refusal
-    told-requires
+    refused-by-requires
     returns
     same-length
     returns-2

@@ -16,10 +16,14 @@ number-of-requires : tie.Need-number-of-requires
 number-of-requires c κs = search needs
 
 returns : tie.Need-returns
-returns c = start-fresh (c .before .before .before .args .alphabet) (c .before .before .new .result) _ (c .enum-told .given .1) (c .before .before .new .ensures)
+returns c =
+    let n = c .before .before in
+    start-fresh (n .before .args .alphabet) (n .new .result) _ (c .enum-told .given .1) (n .new .ensures)
 
 returns-2 : tie.Need-returns-2
-returns-2 c = start-refused (c .before .before .before .before .before .args .alphabet) (c .before .before .before .before .new .result) _ (c .number-of .result) (c .before .before .refusal .given .1) (c .before .before .before .before .new .ensures) (c .number-of .ensures)
+returns-2 c =
+    let n = c .before .before .before .before in
+    start-refused (n .before .args .alphabet) (n .new .result) _ (c .number-of .result) (c .before .before .refusal .given .1) (n .new .ensures) (c .number-of .ensures)
 
 pub fc-encoder-new-spec : {M : Type 1} → statement M
 fc-encoder-new-spec =

@@ -25,10 +25,16 @@ number-of-requires : tie.Need-number-of-requires
 number-of-requires c κs = search needs
 
 returns-2 : tie.Need-returns-2
-returns-2 c = guess-kind (c .before .before .before .before .before .before .before .before .args .state) _ (c .before .before .before .before .guess .result) _ (c .number .result) (c .before .before .kind .given .1) (c .before .before .before .before .guess .ensures .1) (c .number .ensures)
+returns-2 c =
+    let g = c .before .before .before .before in
+    let a = g .before .before .before .before .args in
+    guess-kind (a .state) _ (g .guess .result) _ (c .number .result) (c .before .before .kind .given .1) (g .guess .ensures .1) (c .number .ensures)
 
 returns-3 : tie.Need-returns-3
-returns-3 c = guess-refused (c .before .before .before .before .before .before .before .before .args .state) _ (c .before .before .before .before .guess .result) _ _ (c .number-of .result) (c .before .before .refusal .given .1) (c .before .before .before .before .guess .ensures .1) (c .number-of .ensures)
+returns-3 c =
+    let g = c .before .before .before .before in
+    let a = g .before .before .before .before .args in
+    guess-refused (a .state) _ (g .guess .result) _ _ (c .number-of .result) (c .before .before .refusal .given .1) (g .guess .ensures .1) (c .number-of .ensures)
 
 pub fc-guesser-guess-spec : {M : Type 1} → statement M
 fc-guesser-guess-spec =

@@ -4,7 +4,7 @@ use Rattle.fantailclock.proofs.guesses.fc_guesser_update.Statement.{sta
 use Rattle.fantailclock.proofs.guesses.fc_guesser_update.Tie as tie
 
 returns : tie.Need-returns
-returns c = update-big (c .before .before .before .args .state) (c .before .before .before .args .text .now) (c .if1 .taken)
+returns c = let a = c .before .before .before .args in update-big (a .state) (a .text .now) (c .if1 .taken)
 
 cast-t7 : tie.Need-cast-t7
 cast-t7 c = search needs
@@ -25,10 +25,16 @@ number-of-requires : tie.Need-number-of-requires
 number-of-requires c κs = search needs
 
 returns-2 : tie.Need-returns-2
-returns-2 c = update-next (c .before .before .before .before .before .before .before .before .before .args .state) _ (c .before .before .before .before .update .result) _ (c .before .before .next .given .1) (c .before .before .before .before .update .ensures .1)
+returns-2 c =
+    let g = c .before .before .before .before in
+    let a = g .before .before .before .before .before .args in
+    update-next (a .state) _ (g .update .result) _ (c .before .before .next .given .1) (g .update .ensures .1)
 
 returns-3 : tie.Need-returns-3
-returns-3 c = update-refused (c .before .before .before .before .before .before .before .before .before .args .state) _ (c .before .before .before .before .update .result) _ _ (c .number-of .result) (c .before .before .refusal .given .1) (c .before .before .before .before .update .ensures .1) (c .number-of .ensures)
+returns-3 c =
+    let g = c .before .before .before .before in
+    let a = g .before .before .before .before .before .args in
+    update-refused (a .state) _ (g .update .result) _ _ (c .number-of .result) (c .before .before .refusal .given .1) (g .update .ensures .1) (c .number-of .ensures)
 
 pub fc-guesser-update-spec : {M : Type 1} → statement M
 fc-guesser-update-spec =

@@ -21,11 +21,15 @@ number-of-requires c κs = search needs
 
 returns : tie.Need-returns
 returns c =
-    let k = c .before .before in
-    bits-known (c .before .before .before .before .before .args .alphabet) _ (c .bits-per-symbol .result) (sym (c .before .before .before .before .kind-of-number .ensures .0) ∙ k .kind .given .1) (c .bits-per-symbol .ensures)
+    let n = c .before .before .before .before in
+    bits-known (n .before .args .alphabet) _ (c .bits-per-symbol .result) (sym (n .kind-of-number .ensures .0) ∙ c .before .before .kind .given .1)
+    (c .bits-per-symbol .ensures)
 
 returns-2 : tie.Need-returns-2
-returns-2 c = bits-refused (c .before .before .before .before .before .args .alphabet) _ (c .number-of .result) (sym (c .before .before .before .before .kind-of-number .ensures .0) ∙ c .before .before .refusal .given .1) (c .number-of .ensures)
+returns-2 c =
+    let n = c .before .before .before .before in
+    bits-refused (n .before .args .alphabet) _ (c .number-of .result) (sym (n .kind-of-number .ensures .0) ∙ c .before .before .refusal .given .1)
+    (c .number-of .ensures)
 
 pub fc-bits-per-symbol-spec : {M : Type 1} → statement M
 fc-bits-per-symbol-spec =

@@ -7,9 +7,16 @@ use Rattle.fantailclock.proofs.Told.{name-short, name-fits, name-refuse
 use Rattle.fantailclock.proofs.kinds.fc_display_name.Statement.{statement}
 use Rattle.fantailclock.proofs.kinds.fc_display_name.Tie as tie
 
--- the kind that was found
-named : (c : tie.After-kind) → namedAt (c .before .before .before .before .args .alphabet) ≡ Kind (c .kind .given .0 .0)
+-- the call, from where the kind is found
+abbrev call : tie.After-kind → tie.Start
+call c = c .before .before .before .before
+
+named : (c : tie.After-kind) → namedAt (call c .args .alphabet) ≡ Kind (c .kind .given .0 .0)
 named c = sym (c .before .before .kind-of-number .ensures .0) ∙ c .kind .given .1
+
+-- that place, from where the name is told
+abbrev kind : tie.After-display-name → tie.After-kind
+kind c = c .before .before
 
 kind-of-number-requires : tie.Need-kind-of-number-requires
 kind-of-number-requires c κs = search needs
@@ -23,7 +30,8 @@ display-name-requires c κs = search needs
 returns : tie.Need-returns
 returns c =
     let d = c .before .before in
-    name-short (c .before .before .before .before .before .before .before .before .args .alphabet) _ (d .display-name .result) (c .before .before .before .before .before .before .before .before .args .out .now) (named (d .before .before)) (d .display-name .ensures) (c .if1 .taken)
+    let a = call (kind d) .args in
+    name-short (a .alphabet) _ (d .display-name .result) (a .out .now) (named (kind d)) (d .display-name .ensures) (c .if1 .taken)
 
 slice-aggregate-put : tie.Need-slice-aggregate-put
 slice-aggregate-put c = search needs
@@ -44,11 +52,19 @@ same-length c = search needs
 
 returns-2 : tie.Need-returns-2
 returns-2 c =
-    let d = c .before .before .before .before .before .before .before in
-    name-fits (c .before .before .before .before .before .before .before .before .before .before .before .before .before .args .alphabet) _ (d .display-name .result) (c .before .before .before .before .before .before .before .before .before .before .before .before .before .args .out .now) (c .before .before .put .last .1 .1 .0) (named (d .before .before)) (d .display-name .ensures) (c .before .before .before .before .before .if1 .left) (c .before .before .put .ensures)
+    let put = c .before .before in
+    let long = put .before .before .before in
+    let d = long .before .before in
+    let a = call (kind d) .args in
+    name-fits (a .alphabet) _ (d .display-name .result) (a .out .now) (put .put .last .1 .1 .0) (named (kind d)) (d .display-name .ensures) (long .if1 .left)
+    (put .put .ensures)
 
 returns-3 : tie.Need-returns-3
-returns-3 c = name-refused (c .before .before .before .before .before .before .args .alphabet) (c .before .before .before .before .before .before .args .out .now) _ (c .number-of .result) (sym (c .before .before .before .before .kind-of-number .ensures .0) ∙ c .before .before .refusal .given .1) (c .number-of .ensures)
+returns-3 c =
+    let n = c .before .before .before .before in
+    let a = n .before .before .args in
+    name-refused (a .alphabet) (a .out .now) _ (c .number-of .result) (sym (n .kind-of-number .ensures .0) ∙ c .before .before .refusal .given .1)
+    (c .number-of .ensures)
 
 pub fc-display-name-spec : {M : Type 1} → statement M
 fc-display-name-spec =

@@ -31,7 +31,8 @@ loop-less c = search needs
 loop-again : tie.Need-loop-again Inv-loop μ-loop
 loop-again c =
     let l = c .before .before in
-    (search needs, simp length-set (search needs), put-more (l .before .args .bytes .now) (l .before .args .out .now) (l .loop .out) (l .loop .i) (omega arith) (omega arith) (l .loop .inv .2))
+    let a = l .before .args in
+    (search needs, simp length-set (search needs), put-more (a .bytes .now) (a .out .now) (l .loop .out) (l .loop .i) (omega arith) (omega arith) (l .loop .inv .2))
 
 same-length : tie.Need-same-length Inv-loop μ-loop
 same-length c = search needs

@@ -16,7 +16,10 @@ same-length : tie.Need-same-length
 same-length c = search needs
 
 returns : tie.Need-returns
-returns c = (c .count-of .ensures ∙ ap (λ (x : Read). count (readReply x)) (c .before .before .before .decode-covered .ensures .0), c .before .before .before .decode-covered .ensures .1)
+returns c = (
+  c .count-of .ensures ∙ ap (λ (x : Read). count (readReply x)) (c .before .before .before .decode-covered .ensures .0),
+  c .before .before .before .decode-covered .ensures .1,
+)
 
 pub fc-decode-covered-spec : {M : Type 1} → statement M
 fc-decode-covered-spec =

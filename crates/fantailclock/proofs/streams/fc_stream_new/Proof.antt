@@ -16,10 +16,17 @@ number-of-requires : tie.Need-number-of-requires
 number-of-requires c κs = search needs
 
 returns : tie.Need-returns
-returns c = let a = c .before .before .before .args in start-fresh (a .alphabet) (a .skip) (a .budget) (c .before .before .new .result) _ (c .enum-told .given .1) (c .before .before .new .ensures)
+returns c =
+    let n = c .before .before in
+    let a = n .before .args in
+    start-fresh (a .alphabet) (a .skip) (a .budget) (n .new .result) _ (c .enum-told .given .1) (n .new .ensures)
 
 returns-2 : tie.Need-returns-2
-returns-2 c = let a = c .before .before .before .before .before .args in start-refused (a .alphabet) (a .skip) (a .budget) (c .before .before .before .before .new .result) _ (c .number-of .result) (c .before .before .refusal .given .1) (c .before .before .before .before .new .ensures) (c .number-of .ensures)
+returns-2 c =
+    let n = c .before .before .before .before in
+    let a = n .before .args in
+    start-refused (a .alphabet) (a .skip) (a .budget) (n .new .result) _ (c .number-of .result) (c .before .before .refusal .given .1) (n .new .ensures)
+    (c .number-of .ensures)
 
 pub fc-stream-new-spec : {M : Type 1} → statement M
 fc-stream-new-spec =

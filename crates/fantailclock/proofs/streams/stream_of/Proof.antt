@@ -19,7 +19,10 @@ cast-t6 c = search needs
 
 returns : tie.Need-returns
 unfolding outside
-returns c = let s = c .before .before .before .before .args .state in ap (λ (x : ℕ). record { alphabet = x; skip = s .skip; budget = s .budget; «pending_bits» = s .bits; pending = s .pending }) (c .before .before .before .number .ensures)
+returns c =
+    let n = c .before .before .before in
+    let s = n .before .args .state in
+    ap (λ (x : ℕ). record { alphabet = x; skip = s .skip; budget = s .budget; «pending_bits» = s .bits; pending = s .pending }) (n .number .ensures)
 
 pub stream-of-spec : {M : Type 1} → statement M
 stream-of-spec = tie.close (tie.spec number-requires cast-t4 cast-t5 cast-t6 returns)

@@ -26,7 +26,8 @@ returns : tie.Need-returns
 unfolding answeredBy
 returns c =
     let a = c .before .before .args in
-    ap (λ (x : Status). Streamed.Moved (a .taken) (a .n) x (record { alphabet = a .s .alphabet; skip = 0; budget = a .s .budget - a .n; bits = a .have; pending = a .acc })) (c .status-of .ensures)
+    ap (λ (x : Status). Streamed.Moved (a .taken) (a .n) x (record { alphabet = a .s .alphabet; skip = 0; budget = a .s .budget - a .n; bits = a .have; pending = a .acc }))
+    (c .status-of .ensures)
 
 pub answered-spec : {M : Type 1} → statement M
 answered-spec =

@@ -1,11 +1,12 @@
 use mathlib.Core.Path.{_≡_, refl, sym, ap, _∙_}
 use mathlib.Core.List.{List}
-use Prim.Native.Nat.{ℕ, _+_, _-_, _≤_, _<_, min}
+use Prim.Native.Nat.{ℕ, _+_, _-_, _/_, _^_, _≤_, _<_, min}
 use native.Mathlib.Nat.{lt-of-lt-of-le}
 use native.Mathlib.Omega.{arith}
 use borrow.Author.Needs.{needs}
 use lib.ListN.{length, length-set}
 use lib.Pow.{pow-mono}
+use Rattle.bits.proofs.Shifts.{push-byte-is, low-is, top-is}
 use Rattle.streaming.specs.declared.decoder.StreamingDecoder.{StreamingDecoder}
 use Rattle.streaming.specs.Flow.{Level, filled}
 use Rattle.streaming.proofs.Levels.{level-lt, level-fill, level-same, level-answer, fill-none, fill-more}
@@ -102,8 +103,8 @@ returns c =
     let all =
     carry-count s source (start k .pre .0 .0) (from k) (k .before .least .result) (length (memory k)) (start k .pre .1 .0) (omega arith) r (limit k) (count k) in (
       level-answer r (length (memory k)) (omega arith) all (c .answered .ensures) (call .copy .kept .1 .1 .1 .0),
-      copy-memory s source (start k .pre .0 .0) (from k) (bare none) (λ i. k .before .before .before .shared-slice-known .given i .fits) (start k .pre .0 .1) (k .least2 .result) _ (memory k)
-          (call .copy .ensures) all,
+      copy-memory s source (start k .pre .0 .0) (from k) (bare none) (λ i. k .before .before .before .shared-slice-known .given i .fits) (start k .pre .0 .1)
+          (k .least2 .result) _ (memory k) (call .copy .ensures) all,
     )
 
 -- ---- bytes past the bits at hand
@@ -119,31 +120,42 @@ loop-holds c =
     let k = c .before in
     (omega arith, level-same (start k .pre .1 .1 .level) refl refl (omega arith), fill-none (state k) (text k) (memory k), refl)
 
-add-push : tie.Need-add-push Inv-loop μ-loop
-add-push c = let k = counted (c .before) in omega (arith, c .loop-test .taken, count k, start k .good)
+add-push-byte : tie.Need-add-push-byte Inv-loop μ-loop
+add-push-byte c = let k = counted (c .before) in omega (arith, c .loop-test .taken, count k, start k .good)
 
-shared-slice-read-push : tie.Need-shared-slice-read-push Inv-loop μ-loop
-shared-slice-read-push c = omega (arith, c .before .loop-test .taken, count (counted (c .before .before)))
+shared-slice-read-push-byte : tie.Need-shared-slice-read-push-byte Inv-loop μ-loop
+shared-slice-read-push-byte c = omega (arith, c .before .loop-test .taken, count (counted (c .before .before)))
 
-push-requires : tie.Need-push-requires Inv-loop μ-loop
-push-requires c κs =
-    let l = c .before .before in
-    lt-of-lt-of-le (level-lt (l .loop .inv .1)) (pow-mono {j = 56} (omega (arith, few (counted l))))
+push-byte-requires : tie.Need-push-byte-requires Inv-loop μ-loop
+push-byte-requires c κs = search needs
+
+-- nothing falls out of the word
+room : (l : Head) → l .loop .acc < 2 ^ 56
+room l = lt-of-lt-of-le (level-lt (l .loop .inv .1)) (pow-mono {j = 56} (omega (arith, few (counted l))))
 
 -- with the byte behind the bits at hand
-pushed : (c : tie.After-push Inv-loop μ-loop)
-    → Level (state (counted (c .before .before .before))) (text (counted (c .before .before .before))) (c .push .result) (have (counted (c .before .before .before)) + 8) (from (counted (c .before .before .before)) + (c .before .before .before .loop .n + 1)) (c .before .before .before .loop .n)
+abbrev head : tie.After-push-byte Inv-loop μ-loop → Head
+head c = c .before .before .before
+
+pushed : (c : tie.After-push-byte Inv-loop μ-loop)
+    → Level (state (counted (head c))) (text (counted (head c))) (c .push-byte .result) (have (counted (head c)) + 8)
+    (from (counted (head c)) + (head c .loop .n + 1)) (head c .loop .n)
 pushed c =
     let known = c .before in
-    let l = known .before .before in
+    let l = head c in
     level-same
-    (level-fill (l .loop .inv .1) (shared-slice-read-push known) _ refl (known .shared-slice-known2 .given (from (counted l) + l .loop .n) .fits) (c .push .ensures))
+    (level-fill (l .loop .inv .1) (shared-slice-read-push-byte known) _ refl (known .shared-slice-known2 .given (from (counted l) + l .loop .n) .fits)
+    (c .push-byte .ensures ∙ push-byte-is _ _ (room l)))
     refl refl (omega arith)
 
-top-requires : tie.Need-top-requires Inv-loop μ-loop
-top-requires c κs =
-    let k = counted (c .before .before .before) in
-    (omega (arith, few k), carry-lt (state k) (text k) (start k .pre .0 .0) (have k) (pushed c))
+byte-at-requires : tie.Need-byte-at-requires Inv-loop μ-loop
+byte-at-requires c κs = search needs
+
+-- a base's code is all that stands above the bits that stay
+code : (c : tie.After-byte-at Inv-loop μ-loop) → c .byte-at .result ≡ c .before .push-byte .result / 2 ^ have (counted (head (c .before)))
+code c =
+    let k = counted (head (c .before)) in
+    c .byte-at .ensures ∙ top-is (omega (arith, few k)) _ (carry-lt (state k) (text k) (start k .pre .0 .0) (have k) (pushed (c .before)))
 
 slice-write-out : tie.Need-slice-write-out Inv-loop μ-loop
 slice-write-out c =
@@ -152,7 +164,7 @@ slice-write-out c =
     omega (arith, turn .loop-test .taken, count (counted l), limit (counted l), l .loop .inv .3)
 
 low-requires : tie.Need-low-requires Inv-loop μ-loop
-low-requires c κs = omega (arith, few (counted (c .before .before .before .before)))
+low-requires c κs = search needs
 
 add-n : tie.Need-add-n Inv-loop μ-loop
 add-n c =
@@ -172,9 +184,9 @@ loop-again c =
     let eight = start k .pre .0 .0 in
     let r = pushed (c .before .before) in (
       omega (arith, turn .loop-test .taken),
-      carry-level (state k) (text k) eight (have k) r (c .low .ensures),
+      carry-level (state k) (text k) eight (have k) r (c .low .ensures ∙ low-is (omega (arith, few k)) _),
       fill-more (state k) (text k) (l .loop .out) (memory k) (l .loop .n) _ (omega (arith, turn .loop-test .taken, count k, limit k)) (inv .2)
-          (carry-base (state k) (text k) eight (have k) r (start k .pre .0 .1) (c .before .top .ensures)),
+          (carry-base (state k) (text k) eight (have k) r (start k .pre .0 .1) (code (c .before))),
       simp length-set (inv .3),
     )
 
@@ -184,7 +196,8 @@ done c = omega (arith, c .before .loop .inv .0, c .loop-test .left)
 
 -- so the level is that of their count
 level : (c : tie.After-loop Inv-loop μ-loop)
-    → Level (state (counted (c .before))) (text (counted (c .before))) (c .before .loop .acc) (have (counted (c .before))) (from (counted (c .before)) + counted (c .before) .least2 .result) (counted (c .before) .least2 .result)
+    → Level (state (counted (c .before))) (text (counted (c .before))) (c .before .loop .acc) (have (counted (c .before)))
+    (from (counted (c .before)) + counted (c .before) .least2 .result) (counted (c .before) .least2 .result)
 level c = rw (done c) at (c .before .loop .inv .1)
 
 answered-requires-2 : tie.Need-answered-requires-2 Inv-loop μ-loop
@@ -227,10 +240,10 @@ carry-spec =
     same-length
     returns
     loop-holds
-    add-push
-    shared-slice-read-push
-    push-requires
-    top-requires
+    add-push-byte
+    shared-slice-read-push-byte
+    push-byte-requires
+    byte-at-requires
     slice-write-out
     low-requires
     add-n

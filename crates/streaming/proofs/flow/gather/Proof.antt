@@ -1,7 +1,8 @@
-use mathlib.Core.Path.{_≡_, refl}
-use Prim.Native.Nat.{_+_, _-_, _≤_}
+use mathlib.Core.Path.{_≡_, refl, _∙_}
+use Prim.Native.Nat.{_+_, _-_, _^_, _≤_, _<_}
 use native.Mathlib.Omega.{arith}
 use borrow.Author.Needs.{needs}
+use Rattle.bits.proofs.Shifts.{push-byte-is}
 use Rattle.streaming.proofs.Blocks.{Gathered, gather-none, gather-lt, gather-more}
 use Rattle.streaming.proofs.flow.gather.Statement.{statement}
 use Rattle.streaming.proofs.flow.gather.Tie as tie
@@ -15,18 +16,22 @@ abbrev μ-loop : tie.MeasureT-loop
 loop-holds : tie.Need-loop-holds Inv-loop μ-loop
 loop-holds c = let a = c .before .args in (search needs, gather-none (a .source .now) (a .from) (a .acc))
 
-add-push : tie.Need-add-push Inv-loop μ-loop
-add-push c = search needs
+add-push-byte : tie.Need-add-push-byte Inv-loop μ-loop
+add-push-byte c = search needs
 
-shared-slice-read-push : tie.Need-shared-slice-read-push Inv-loop μ-loop
-shared-slice-read-push c = search needs
+shared-slice-read-push-byte : tie.Need-shared-slice-read-push-byte Inv-loop μ-loop
+shared-slice-read-push-byte c = search needs
 
-push-requires : tie.Need-push-requires Inv-loop μ-loop
-push-requires c κs =
-    let at-loop = c .before .before in
-    let start = at-loop .before .before in
+push-byte-requires : tie.Need-push-byte-requires Inv-loop μ-loop
+push-byte-requires c κs = search needs
+
+-- nothing falls out of the word
+room : (c : tie.In-loop Inv-loop μ-loop) → c .before .loop .bits < 2 ^ 56
+room c =
+    let l = c .before in
+    let start = l .before .before in
     let a = start .args in
-    gather-lt (a .source .now) (a .from) (a .acc) (at-loop .loop .i) (at-loop .loop .bits) (start .pre .0) (omega (arith, c .before .loop-test .taken, start .pre .1 .0)) (at-loop .loop .inv .1)
+    gather-lt (a .source .now) (a .from) (a .acc) (l .loop .i) (l .loop .bits) (start .pre .0) (omega (arith, c .loop-test .taken, start .pre .1 .0)) (l .loop .inv .1)
 
 add-i : tie.Need-add-i Inv-loop μ-loop
 add-i c = search needs
@@ -36,10 +41,14 @@ loop-less c = search needs
 
 loop-again : tie.Need-loop-again Inv-loop μ-loop
 loop-again c =
-    let at-loop = c .before .before .before in
-    let a = at-loop .before .before .args in
-    let i = at-loop .loop .i in
-    (search needs, gather-more (a .source .now) (a .from) (a .acc) i (at-loop .loop .bits) _ refl (c .before .shared-slice-known2 .given (a .from + i) .fits) (at-loop .loop .inv .1) (c .push .ensures))
+    let turn = c .before .before in
+    let l = turn .before in
+    let a = l .before .before .args in
+    let i = l .loop .i in (
+      search needs,
+      gather-more (a .source .now) (a .from) (a .acc) i (l .loop .bits) _ refl (c .before .shared-slice-known2 .given (a .from + i) .fits) (l .loop .inv .1)
+          (c .push-byte .ensures ∙ push-byte-is _ _ (room turn)),
+    )
 
 returns : tie.Need-returns Inv-loop μ-loop
 returns c =
@@ -55,9 +64,9 @@ gather-spec =
     Inv-loop
     μ-loop
     loop-holds
-    add-push
-    shared-slice-read-push
-    push-requires
+    add-push-byte
+    shared-slice-read-push-byte
+    push-byte-requires
     add-i
     loop-less
     loop-again

@@ -1,5 +1,7 @@
+use mathlib.Core.Path.{_∙_}
 use native.Mathlib.Omega.{arith}
 use borrow.Author.Needs.{needs}
+use Rattle.bits.proofs.Shifts.{low-is}
 use Rattle.streaming.proofs.Calls.{sound-facts}
 use Rattle.streaming.proofs.Openings.{open-pending, due-source, open-skip}
 use Rattle.streaming.proofs.flow.opened.Statement.{statement}
@@ -43,7 +45,8 @@ returns-2 c =
     record {
       few = omega (arith, test .if1 .left);
       level =
-          open-skip s (start .args .source .now) (start .pre .0) (test .if1 .left) (shared-slice-read-low (c .before)) (c .before .shared-slice-known2 .given 0 .fits) (c .low .ensures);
+          open-skip s (start .args .source .now) (start .pre .0) (test .if1 .left) (shared-slice-read-low (c .before)) (c .before .shared-slice-known2 .given 0 .fits)
+          (c .low .ensures ∙ low-is (omega arith) _);
     }
 
 pub opened-spec : {M : Type 1} → statement M

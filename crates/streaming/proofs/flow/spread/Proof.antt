@@ -1,11 +1,11 @@
 use mathlib.Core.Path.{_≡_, refl}
-use Prim.Native.Nat.{_+_, _-_, _*_, _≤_}
+use Prim.Native.Nat.{_+_, _-_, _*_, _/_, _%_, _^_, _≤_, _<_}
 use native.Mathlib.Nat.{add-mul, one-mul, mul-le-mul-right, zero-mul}
 use native.Mathlib.Omega.{arith}
 use borrow.Author.Needs.{needs}
 use lib.ListN.{length, length-set}
 use Rattle.streaming.specs.Flow.{withBases, withBlock}
-use Rattle.streaming.proofs.Blocks.{spread-none, spread-code, spread-more}
+use Rattle.streaming.proofs.Blocks.{code-is, spread-none, spread-code, spread-more}
 use Rattle.streaming.proofs.flow.spread.Statement.{statement}
 use Rattle.streaming.proofs.flow.spread.Tie as tie
 
@@ -27,6 +27,9 @@ loop-holds c =
     let a = c .before .args in
     (search needs, omega (arith, zero-mul (a .b)), spread-none (a .table .now) (a .bits) (a .have) (a .b) (a .n) (a .out .now), refl)
 
+abbrev start : tie.After-field Inv-loop μ-loop → tie.Start Inv-loop μ-loop
+start c = c .before .before .before .before
+
 -- there are bits for a base more
 fits : (c : tie.In-loop Inv-loop μ-loop) → c .before .before .before .args .b ≤ c .before .loop .left
 fits c =
@@ -37,11 +40,16 @@ fits c =
 sub-left : tie.Need-sub-left Inv-loop μ-loop
 sub-left c = fits c
 
-code-requires : tie.Need-code-requires Inv-loop μ-loop
-code-requires c κs = let start = c .before .before .before in (omega (arith, c .before .loop .inv .1, start .pre), start .pre .1 .0)
+field-requires : tie.Need-field-requires Inv-loop μ-loop
+field-requires c κs = search needs
+
+-- the code, as an index
+code : (c : tie.After-field Inv-loop μ-loop)
+    → (c .field .result ≡ start c .args .bits / 2 ^ (c .before .before .loop .left - start c .args .b) % 2 ^ start c .args .b) × (c .field .result < 32)
+code c = code-is _ (omega (arith, c .before .before .loop .inv .1, start c .pre)) (start c .pre .1 .0) (c .field .ensures)
 
 element-copy-out-out : tie.Need-element-copy-out-out Inv-loop μ-loop
-element-copy-out-out c = search needs
+element-copy-out-out c = omega (arith, code c .1)
 
 add-out : tie.Need-add-out Inv-loop μ-loop
 add-out c = search needs
@@ -65,7 +73,8 @@ loop-again c =
       search needs,
       omega (arith, l .inv .1, fits turn, add-mul (l .i) 1 (a .b), one-mul (a .b)),
       spread-more (a .table .now) (a .bits) (a .have) (a .b) (a .n) (a .out .now) (l .i) (l .out) _ (omega (arith, turn .loop-test .taken, start .pre))
-          (spread-code (a .table .now) (a .bits) (a .have) (a .b) (a .n) (a .out .now) (l .i) (l .left) (c .before .code .result) (l .inv .1) (c .before .code .ensures .0)) (l .inv .2),
+          (spread-code (a .table .now) (a .bits) (a .have) (a .b) (a .n) (a .out .now) (l .i) (l .left) (c .before .field .result) (l .inv .1) (code (c .before) .0))
+          (l .inv .2),
       simp length-set (l .inv .3),
     )
 
@@ -89,7 +98,7 @@ spread-spec =
     add-left
     loop-holds
     sub-left
-    code-requires
+    field-requires
     element-copy-out-out
     add-out
     slice-write-out

@@ -10,12 +10,15 @@ use Rattle.streaming.proofs.Memory.{Met, refuses, waits, moves}
 use Rattle.streaming.proofs.decoder.StreamingDecoder.read.Statement.{statement}
 use Rattle.streaming.proofs.decoder.StreamingDecoder.read.Tie as tie
 
--- past the first question the state is sound
-sound : (c : tie.Else1) → soundStream (c .before .before .before .before .args .self) ≡ true
+-- the call, from past the first question, where the state is sound
+abbrev call : tie.Else1 → tie.Start
+call c = c .before .before .before .before
+
+sound : (c : tie.Else1) → soundStream (call c .args .self) ≡ true
 sound c = sym (c .before .is-sound .ensures) ∙ not-false _ (c .if1 .left)
 
 -- past the second there is a byte for the skip
-begins : (c : tie.Else2) → eqb (c .before .before .before .before .before .before .args .self .skip) 0 || ltb 0 (length (c .before .before .before .before .before .before .args .source .now)) ≡ true
+begins : (c : tie.Else2) → eqb (call (c .before .before) .args .self .skip) 0 || ltb 0 (length (call (c .before .before) .args .source .now)) ≡ true
 begins c = sym (c .before .can-begin .ensures) ∙ not-false _ (c .if2 .left)
 
 is-sound-requires : tie.Need-is-sound-requires
@@ -34,7 +37,7 @@ returns-2 : tie.Need-returns-2
 unfolding Met
 returns-2 c =
     let first = c .before .before in
-    let a = first .before .before .before .before .args in
+    let a = call first .args in
     waits (a .self) (a .source .now) (a .out .now) (sound first) (sym (c .before .can-begin .ensures) ∙ not-true _ (c .if2 .taken))
 
 opened-requires : tie.Need-opened-requires
@@ -48,7 +51,7 @@ carry-requires c κs =
     let width = c .before .before in
     let opened = width .before in
     let first = opened .before .before .before in
-    let s = first .before .before .before .before .args .self in
+    let s = call first .args .self in
     let eight = sym (width .bits-per-symbol .ensures) ∙ c .before .if3 .taken in
     ((eight, plain-of-eight (s .alphabet) eight), (sound-facts s (sound first) .few, opened .opened .ensures))
 
@@ -58,18 +61,18 @@ same-length c = c .before .before .carry .kept .1 .1 .1 .0
 returns-3 : tie.Need-returns-3
 unfolding Met
 returns-3 c =
-    let call = c .before .before in
-    let begun = call .before .before .before .before .before in
+    let done = c .before .before in
+    let begun = done .before .before .before .before .before in
     let first = begun .before .before in
-    let a = first .before .before .before .before .args in
-    moves (a .self) (a .source .now) (a .out .now) (sound first) (begins begun) (call .carry .ensures .0) (call .carry .ensures .1)
+    let a = call first .args in
+    moves (a .self) (a .source .now) (a .out .now) (sound first) (begins begun) (done .carry .ensures .0) (done .carry .ensures .1)
 
 pump-requires : tie.Need-pump-requires
 pump-requires c κs =
     let width = c .before .before in
     let opened = width .before in
     let first = opened .before .before .before in
-    let s = first .before .before .before .before .args .self in
+    let s = call first .args .self in
     ((packed-else (s .alphabet) (λ e. c .before .if3 .left (width .bits-per-symbol .ensures ∙ e)), sound-facts s (sound first) .few), opened .opened .ensures)
 
 same-length-2 : tie.Need-same-length-2
@@ -78,11 +81,11 @@ same-length-2 c = c .before .before .pump .kept .1 .1 .1 .0
 returns-4 : tie.Need-returns-4
 unfolding Met
 returns-4 c =
-    let call = c .before .before in
-    let begun = call .before .before .before .before .before in
+    let done = c .before .before in
+    let begun = done .before .before .before .before .before in
     let first = begun .before .before in
-    let a = first .before .before .before .before .args in
-    moves (a .self) (a .source .now) (a .out .now) (sound first) (begins begun) (call .pump .ensures .0) (call .pump .ensures .1)
+    let a = call first .args in
+    moves (a .self) (a .source .now) (a .out .now) (sound first) (begins begun) (done .pump .ensures .0) (done .pump .ensures .1)
 
 pub read-spec : {M : Type 1} → statement M
 read-spec =
