@@ -1,7 +1,7 @@
 -- What a reply is as numbers, for each case of an answer.
 use mathlib.Core.Path.{_≡_, refl, sym, ap, ap₂, _∙_}
 use mathlib.Core.Bool.{Bool, true, false, cond}
-use mathlib.Core.List.{List, [], _∷_, _++_}
+use mathlib.Core.List.{List}
 use Prim.Native.Nat.{ℕ, _≤_, _<_}
 use native.Mathlib.Omega.{arith}
 use borrow.Author.Tests.{le-leb, lt-leb}
@@ -9,7 +9,7 @@ use lib.Dec.{leb}
 use lib.ListN.{length, take, drop}
 use lib.Seq.{length-take-le}
 use Rattle.bits.specs.Memory.{front}
-use Rattle.alphabet.specs.Questions.{Reply, accepted, refused, refusalReply, by, numberIn}
+use Rattle.alphabet.specs.Questions.{Reply, refused, refusalReply, by, numberIn}
 use Rattle.alphabet.specs.Symbols.{coding}
 use Rattle.alphabet.specs.Names.{displayName, nameOf, numberOf, known, kindOf, numbered, namedAt}
 use Rattle.alphabet.specs.Guess.{guessOf, soundGuesser, guessAt}
