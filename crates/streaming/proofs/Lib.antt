@@ -13,3 +13,4 @@ pub mod AllCalls
 pub mod Pieces
 pub mod Ending
 pub mod Closing
+pub mod Skips
