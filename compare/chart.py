@@ -1,21 +1,25 @@
-"""The bar chart of compare/page: a row of figures is drawn as two bars on logarithmic scales, port / Rust and port / memcpy."""
+"""The bar chart of compare/page: ratios as bars on logarithmic scales, port / Rust and port / memcpy, and beside them in small print the times they are of.
+
+A row of the chart has one row of figures or two, which then share it: two thin bars, the first above the second, and two numbers beside them."""
 
 import math
 from html import escape
 
 WIDTH = 1000
-LABELS = 145  # the row labels end here
-PANELS = {"port_to_rust": (158, 560), "port_to_memcpy": (600, 990)}
-ROW, BAR, HEADING, NUMBER = 16, 11, 22, 42  # heights of a row, its bar and a heading; width of a number beside a bar
-FASTER, SLOWER, COPY, GRID, INK, GOAL = "#2a7f86", "#c8642c", "#7c86a3", "#dddddd", "#222222", "#a3123a"
+LABELS = 212  # the row labels end here
+PANELS = {"port_to_rust": (216, 534), "port_to_memcpy": (690, 926)}
+TIMES = {"port": 610, "Rust": 688, "memcpy": 990}  # the columns of times end here
+ROW, BAR, GAP, LAYER = 12.5, 10, 6, 20  # heights of a row, its bars, the space behind a group, a layer's name
+NUMBERS = {"port_to_rust": (76, 34), "port_to_memcpy": (32, 56)}  # room for the numbers beside the bars, left and right
+FASTER, SLOWER, COPY, GRID, INK, GOAL = ("#2a7f86", "#86bcc1"), ("#c8642c", "#e6ab89"), ("#7c86a3", "#b7bdce"), "#dddddd", "#222222", "#a3123a"
 STEPS = [m * 10.0**e for e in range(-3, 4) for m in (1, 2, 5)]
 
 
 class Scale:
     """A logarithmic scale between two edges of a panel, with room for the numbers beside the bars."""
 
-    def __init__(self, edges, ratios):
-        self.left, self.right = edges[0] + NUMBER, edges[1] - NUMBER
+    def __init__(self, edges, room, ratios):
+        self.left, self.right = edges[0] + room[0], edges[1] - room[1]
         self.low, self.high = min(ratios + [0.5]), max(ratios + [2])
 
     def x(self, ratio):
@@ -56,76 +60,93 @@ def shown(ratio):
     return f"{ratio:.{places}f}"
 
 
-def legend(drawing, title, subtitle):
-    drawing.text(10, 26, title, 18, weight="bold")
-    drawing.text(10, 46, subtitle)
+def legend(drawing, title, subtitle, pair):
+    drawing.text(10, 24, title, 17, weight="bold")
+    drawing.text(10, 41, subtitle, 10)
     x = 10
-    for fill, words in [(FASTER, "port faster than the Rust"), (SLOWER, "port slower than the Rust"), (COPY, "port / memcpy")]:
-        drawing.box(x, 58, 12, 12, fill)
-        drawing.text(x + 18, 68, words)
-        x += 215
-    drawing.line(x + 6, 56, 72, GOAL, 3)
-    drawing.text(x + 18, 68, "goal: the bar ends on it or left of it")
-    drawing.y = 84
+    for fills, words in [(FASTER, "port faster than the Rust"), (SLOWER, "port slower than the Rust"), (COPY, "port / memcpy")]:
+        drawing.box(x, 51, 12, 11, fills[0])
+        drawing.text(x + 17, 60, words, 10)
+        x += 175
+    drawing.line(x - 40, 49, 64, GOAL, 3)
+    drawing.text(x - 33, 60, "goal: the bar ends on it or left of it", 10)
+    for at, words in enumerate(pair):
+        drawing.box(x + 190, 50 + 6 * at, 12, 5, COPY[at])
+    drawing.text(x + 207, 60, f"{pair[0]} · {pair[1]} read", 10)
+    drawing.y = 70
 
 
-def axes(drawing, layer, scales, height):
-    """A layer's name, the scales' steps above it and their lines behind its bars."""
-    top = drawing.y + 40
-    drawing.text(10, drawing.y + 20, layer, 15, weight="bold")
+def axes(drawing, scales, height):
+    """The columns' names, the scales' steps and their lines behind all bars."""
+    top = drawing.y + 32
     for column, words in [("port_to_rust", "port / Rust"), ("port_to_memcpy", "port / memcpy")]:
         scale = scales[column]
-        drawing.text((scale.left + scale.right) / 2, drawing.y + 20, words, 12, "middle", weight="bold")
+        drawing.text((scale.left + scale.right) / 2, drawing.y + 12, words, 11, "middle", weight="bold")
         for step in scale.steps():
-            drawing.text(scale.x(step), drawing.y + 36, f"{step:g}", 11, "middle")
+            drawing.text(scale.x(step), drawing.y + 27, f"{step:g}", 9, "middle")
             drawing.line(scale.x(step), top, top + height, INK if step == 1 else GRID)
+    for words, edge in TIMES.items():
+        drawing.text(edge, drawing.y + 27, words, 9, "end", weight="bold")
     drawing.y = top
 
 
-def bar(drawing, scale, ratio, fill, goal=None):
-    """A bar from the line at 1 to the ratio, the goal's mark, and the ratio behind the bar's end, beyond the mark where that is near."""
-    one, end, y = scale.x(1), scale.x(ratio), drawing.y + (ROW - BAR) / 2
-    drawing.box(min(one, end), y, abs(end - one), BAR, fill)
-    mark = end if goal is None else scale.x(goal)
+def bars(drawing, scale, ratios, fills, goal=None):
+    """Bars from the line at 1 to each ratio, the goal's mark, and the ratios behind the longest bar's end, beyond the mark where that is near."""
+    one, high = scale.x(1), (BAR + 1) / len(ratios) - 1
+    for at, ratio in enumerate(ratios):
+        end = scale.x(ratio)
+        drawing.box(min(one, end), drawing.y + (ROW - BAR) / 2 + at * (high + 1), abs(end - one), high, fills(ratio)[at])
+    words, ends = " · ".join(map(shown, ratios)), [scale.x(ratio) for ratio in ratios]
+    left = max(ratios) < 1
+    end = min(ends) if left else max(ends)
     if goal is not None:
+        mark = scale.x(goal)
         drawing.line(mark, drawing.y, drawing.y + ROW, GOAL, 3)
-    near = mark if abs(mark - end) < NUMBER else end
-    if ratio < 1:
-        drawing.text(min(near, end) - 4, y + BAR - 1, shown(ratio), 11, "end")
-    else:
-        drawing.text(max(near, end) + 4, y + BAR - 1, shown(ratio), 11)
+        if abs(mark - end) < 7 * len(words):
+            end = min(end, mark) if left else max(end, mark)
+    drawing.text(end - 4 if left else end + 4, drawing.y + ROW - 3.5, words, 10, "end" if left else "start")
 
 
-def row(drawing, scales, label, figures, goal):
-    drawing.text(LABELS, drawing.y + ROW - 4, label, 12, "end")
-    ratio = figures["port_to_rust"]
-    bar(drawing, scales["port_to_rust"], ratio, FASTER if ratio <= 1 else SLOWER, goal)
-    bar(drawing, scales["port_to_memcpy"], figures["port_to_memcpy"], COPY)
+def row(drawing, scales, label, figures, times, goal):
+    drawing.text(LABELS, drawing.y + ROW - 3, label, 10, "end")
+    bars(drawing, scales["port_to_rust"], [each["port_to_rust"] for each in figures], lambda ratio: FASTER if ratio <= 1 else SLOWER, goal)
+    bars(drawing, scales["port_to_memcpy"], [each["port_to_memcpy"] for each in figures], lambda ratio: COPY)
+    for words, edge in TIMES.items():
+        drawing.text(edge, drawing.y + ROW - 3.5, " · ".join(times[words]), 9, "end")
     drawing.y += ROW
 
 
-def heading(drawing, words):
-    """A group's heading, on white, since it may reach over the lines of the scale."""
-    drawing.box(8, drawing.y + 5, 7.6 * len(words), 16, "white")
-    drawing.text(10, drawing.y + 17, words, 12, weight="bold")
-    drawing.y += HEADING
+def group_words(words, unit):
+    """A group's name on lines of its own, and its unit."""
+    return [*words.split(", "), unit]
 
 
-def group_height(rows):
-    return HEADING + len(rows) * ROW
+def group_height(words, unit, rows):
+    return max(len(rows) * ROW, len(group_words(words, unit)) * 11.5) + GAP
 
 
-def chart(title, subtitle, layers, goals):
-    """The drawing. `layers`: pairs of a layer's name and its groups, each a title with pairs of a label and a row of figures."""
+def group(drawing, scales, words, unit, rows, goals):
+    top = drawing.y
+    for at, line in enumerate(group_words(words, unit)):
+        drawing.text(10, top + 9.5 + 11.5 * at, line, 10 if line != unit else 9, weight="normal" if at else "bold")
+    for label, figures, times in rows:
+        asked = [goals[each["row"]] for each in figures if each["row"] in goals]
+        row(drawing, scales, label, figures, times, min(asked, default=None))
+    drawing.y = top + group_height(words, unit, rows)
+
+
+def chart(title, subtitle, pair, layers, goals):
+    """The drawing. `pair`: what the two rows of figures are, where they share a row. `layers`: pairs of a layer's name and its groups, each a name with
+    commas, a unit, and rows of a label, one or two rows of figures and their times by column, a list each."""
     drawing = Drawing()
-    legend(drawing, title, subtitle)
-    every = [figures for _, groups in layers for _, rows in groups for _, figures in rows]
-    scales = {column: Scale(edges, [figures[column] for figures in every]) for column, edges in PANELS.items()}
+    legend(drawing, title, subtitle, pair)
+    every = [each for _, groups in layers for *_, rows in groups for _, figures, _ in rows for each in figures]
+    scales = {column: Scale(edges, NUMBERS[column], [each[column] for each in every]) for column, edges in PANELS.items()}
+    axes(drawing, scales, sum(LAYER + sum(group_height(*each) for each in groups) for _, groups in layers))
     for layer, groups in layers:
-        axes(drawing, layer, scales, sum(group_height(rows) for _, rows in groups))
-        for words, rows in groups:
-            heading(drawing, words)
-            for label, figures in rows:
-                row(drawing, scales, label, figures, goals.get(figures["row"]))
-        drawing.y += 14
+        drawing.text(10, drawing.y + 14, layer, 13, weight="bold")
+        drawing.y += LAYER
+        for words, unit, rows in groups:
+            group(drawing, scales, words, unit, rows, goals)
+    drawing.y += 6
     return drawing.whole(title)

@@ -4,18 +4,21 @@
  * Every number is 64 bits wide. Structs go in and come back by value. Nothing is kept between calls, nothing is allocated, nothing is global: any
  * thread may call anything.
  *
- * `refusal` is 0 for an accepted call, else a number:
- *   1 unsound state   2 position above 2^60   3 bytes of the range not lent   4 output memory too short   5 a byte that is no member
- *   6 skip above 7    7 bases outstanding     8 no such alphabet              9 more than 8 bits
- * On a refusal no byte of output memory changes, `next` is the state that was handed in, and every further number is 0, but for 5 (`position` and
- * `byte` of the first non-member). A refused start has no state; it echoes its argument in `next`, so that the state is refused again.
+ * Refusals. `refusal` is 0 for an accepted call, else a number of those below (FC_REFUSED_..). On a refusal
+ *   - no byte of output memory changes;
+ *   - every further number is 0, but for what 5 and 7 tell: with 5 `position` and `byte` are those of the first non-member, with 7 `outstanding` is the
+ *     number of bases still to come;
+ *   - `next`, where the answer has one, is the state that was handed in;
+ *   - fc_guesser_guess, fc_encoder_finalize and fc_stream_end hand no state back, refused or not: it went in by value, and the caller still holds it;
+ *   - a start has no state to hand back: it echoes its arguments in `next`, with zeros beside them, so that this state is refused again.
  *
- * A state's alphabet above 5 is refused by 8 before all else, a number that fits no field by 1.
+ * States. They are plain numbers, and every call judges the one that it gets. An `alphabet` above 5 is refused by 8, before all else. Any other number that
+ * no encoder, stream or guesser can hold makes the state unsound, which is refused by 1: a `has_bad` above 1, for instance, or a `pending`, a `pending_bits`
+ * or (where `has_bad` is 1) a `bad_byte` above 255.
  *
- * Alphabets by number: 0 Dna2bit, 1 Dna3bit, 2 DnaIupac, 3 Protein, 4 Ascii, 5 Unknown.
- *
- * A pointer with a length names that many bytes, which the caller owns; input and output memory of one call must not overlap. Where a length is 0
- * nothing is read or written through the pointer; it must be a valid address all the same, not null.
+ * Memory. A pointer with a length names that many bytes, which the caller owns and which nothing else may write during the call. Where the length is 0
+ * nothing is read or written through the pointer, which may then be any, null too. INPUT AND OUTPUT MEMORY OF ONE CALL MUST NOT OVERLAP: no call can notice
+ * it, none refuses it, and the bases or packed bytes that come out are then wrong.
  */
 #ifndef FANTAILCLOCK_H
 #define FANTAILCLOCK_H
@@ -27,6 +30,29 @@
 extern "C" {
 #endif
 
+/* The version of this header's structs. Compare it with fc_abi_version(), which tells the library's, when the program starts. */
+#define FC_ABI_VERSION 1
+
+/* The alphabets. */
+enum { FC_DNA2BIT = 0, FC_DNA3BIT = 1, FC_DNA_IUPAC = 2, FC_PROTEIN = 3, FC_ASCII = 4, FC_UNKNOWN = 5 };
+
+/* What `refusal` holds. */
+enum {
+    FC_ACCEPTED = 0,
+    FC_REFUSED_UNSOUND = 1,      /* the state is not sound */
+    FC_REFUSED_TOO_FAR = 2,      /* a position, or a number of symbols, above 2^60 */
+    FC_REFUSED_UNCOVERED = 3,    /* bytes of the window's range are not lent */
+    FC_REFUSED_SHORT_MEMORY = 4, /* the output memory is too short */
+    FC_REFUSED_NOT_MEMBER = 5,   /* a byte that is no symbol of the alphabet: `position` and `byte` */
+    FC_REFUSED_BAD_SKIP = 6,     /* a skip above 7 */
+    FC_REFUSED_OUTSTANDING = 7,  /* a stream that is not complete: `outstanding` */
+    FC_REFUSED_NO_ALPHABET = 8,  /* no alphabet has this number */
+    FC_REFUSED_TOO_WIDE = 9      /* more than 8 bits a symbol */
+};
+
+/* What a stream waits for: source, nothing (the budget is used), memory. `status` is 0 on a refusal. */
+enum { FC_HUNGRY = 1, FC_DONE = 2, FC_FULL = 3 };
+
 typedef struct { uint64_t refusal, value; } fc_number;
 typedef struct { uint64_t refusal, count; } fc_count;
 
@@ -37,8 +63,8 @@ typedef struct { uint64_t refusal, count, position, byte; } fc_packed;
 typedef struct { uint64_t mask; } fc_guesser;
 typedef struct { uint64_t refusal; fc_guesser next; } fc_guessing;
 
-/* An encoder's state: symbols seen; bits that fill no byte yet and their value; whether a byte was no member, and the first such byte's position over all
- * pieces and its value (ignored where `has_bad` is 0). */
+/* An encoder's state: symbols seen; bits that fill no byte yet and their value; whether a byte was no member, 0 or 1, and the first such byte's position over
+ * all pieces and its value (ignored where `has_bad` is 0). */
 typedef struct { uint64_t alphabet, seen, pending_bits, pending, has_bad, bad_position, bad_byte; } fc_encoder;
 typedef struct { uint64_t refusal; fc_encoder next; } fc_encoder_started;
 typedef struct { uint64_t refusal, count; fc_encoder next; } fc_updated;
@@ -47,13 +73,13 @@ typedef struct { uint64_t refusal, count; fc_encoder next; } fc_updated;
 typedef struct { uint64_t alphabet, skip, budget, pending_bits, pending; } fc_stream;
 typedef struct { uint64_t refusal; fc_stream next; } fc_stream_started;
 
-/* status: 1 Hungry (give more source), 2 Done (the budget is used), 3 Full (give more memory); 0 on a refusal. */
+/* Source bytes taken, bases written, and FC_HUNGRY, FC_DONE or FC_FULL. */
 typedef struct { uint64_t refusal, taken, written, status; fc_stream next; } fc_streamed;
 
 /* outstanding: the bases still to come where the refusal is 7, else 0. */
 typedef struct { uint64_t refusal, outstanding; } fc_ended;
 
-/* The version of this header's structs: 1. */
+/* The version of the structs that the library was built with: FC_ABI_VERSION, where library and header belong together. */
 uint64_t fc_abi_version(void);
 
 /* The bits per symbol. Refuses by 8. */
@@ -72,7 +98,7 @@ fc_guesser fc_guesser_new(void);
 /* The state after a text, or after one more piece of it. Refuses by 1. */
 fc_guessing fc_guesser_update(fc_guesser state, const uint8_t *text, size_t len);
 
-/* The number of the first alphabet, in the order of numbers 0 to 4, that holds every byte seen. Refuses by 1. */
+/* The number of the first alphabet, in the order of numbers 0 to 4, that holds every byte seen. It hands no state back. Refuses by 1. */
 fc_number fc_guesser_guess(fc_guesser state);
 
 /* The same for a whole text. Refuses nothing. */
@@ -89,7 +115,13 @@ fc_updated fc_encoder_update(fc_encoder state, const uint8_t *piece, size_t len,
  * Refuses by 8, 1, 5, 4. */
 fc_packed fc_encoder_finalize(fc_encoder state, uint8_t *out, size_t room);
 
-/* The whole packing of a text, (len * bits per symbol + 7) / 8 bytes. Refuses by 8, 2, 4, 5; on a refusal nothing is written. */
+/* The bytes that the packing of so many symbols takes, symbols * bits / 8 rounded up. It is exact for every number of symbols, also above the 2^60 at which
+ * the library refuses, where `bits` is at most 8; above that, which no alphabet has, it is UINT64_MAX, more than any memory has room for. */
+static inline uint64_t fc_packed_length(uint64_t symbols, uint64_t bits) {
+    return bits > 8 ? UINT64_MAX : symbols / 8 * bits + (symbols % 8 * bits + 7) / 8;
+}
+
+/* The whole packing of a text, fc_packed_length(len, bits per symbol) bytes. Refuses by 8, 2, 4, 5; on a refusal nothing is written. */
 fc_packed fc_encode_sequence(uint64_t alphabet, const uint8_t *text, size_t len, uint8_t *out, size_t room);
 
 /* The bytes of a packed file that hold the bases from `start` to `end`, not including `end`; the same formula where start exceeds end. Refuses by 9, 2. */
@@ -99,7 +131,8 @@ fc_range fc_byte_range_for_bases(uint64_t start, uint64_t end, uint64_t bits);
  * front of `out`. A window whose end is at most its start is empty, and is answered before any question. Every byte that is not lent reads as zero, so a
  * short fetch reads on as code zero (a run of T in Dna2bit): compare what was fetched with what was asked for, or use fc_decode_covered.
  * They refuse by 8, 2, 4, the covered read by 8, 2, 3, 4; `count` is end - start. */
-fc_count fc_decode_substring_from_bytes_at_offset(uint64_t alphabet, const uint8_t *bytes, size_t len, uint64_t byte_offset, uint64_t start, uint64_t end, uint8_t *out, size_t room);
+fc_count fc_decode_substring_from_bytes_at_offset(uint64_t alphabet, const uint8_t *bytes, size_t len, uint64_t byte_offset, uint64_t start, uint64_t end,
+                                                  uint8_t *out, size_t room);
 
 /* The same with byte_offset 0. */
 fc_count fc_decode_substring_from_bytes(uint64_t alphabet, const uint8_t *bytes, size_t len, uint64_t start, uint64_t end, uint8_t *out, size_t room);
@@ -122,7 +155,8 @@ fc_stream_started fc_stream_new(uint64_t alphabet, uint64_t skip, uint64_t budge
 /* Takes of `source` just the bytes that it needs, `taken` of them, and writes `written` bases at the front of `out`. Refuses by 8, 1. */
 fc_streamed fc_stream_read(fc_stream state, const uint8_t *source, size_t len, uint8_t *out, size_t room);
 
-/* The end of a stream: accepted once the skip is done and every base of the budget is written. Refuses by 8, 1, 7. */
+/* The end of a stream: accepted once the skip is done and every base of the budget is written. It hands no state back: the caller still holds it, and can go
+ * on from it where it was refused by 7. Refuses by 8, 1, 7. */
 fc_ended fc_stream_end(fc_stream state);
 
 #ifdef __cplusplus

@@ -1,0 +1,119 @@
+/*
+ * Holds the header's constants, and what it says of refusals, to the library's answers. The expected side is written from the rules. It is built as C and as
+ * C++, and prints how many answers were held.
+ */
+#include <stdio.h>
+#include <string.h>
+
+#include "fantailclock.h"
+
+static unsigned held, wrong;
+
+static void hold(const char *what, uint64_t got, uint64_t right) {
+    held++;
+    if (got == right) return;
+    wrong++;
+    printf("constants: %s is %llu and should be %llu\n", what, (unsigned long long)got, (unsigned long long)right);
+}
+
+static const uint8_t *of(const char *text) { return (const uint8_t *)text; }
+
+static const struct {
+    uint64_t number, bits;
+    const char *name, *symbols, *stranger;
+} alphabets[] = {
+    {FC_DNA2BIT, 2, "dna2bit", "TCAG", "N"},
+    {FC_DNA3BIT, 3, "dna3bit", "ACGTNRYU", "S"},
+    {FC_DNA_IUPAC, 4, "dnaio", "NACMGRSKTWYUBDHV", "X"},
+    {FC_PROTEIN, 5, "protein", "ACDEFGHIKLMNPQRSTVWY*X-.UBZOJ", "a"},
+    {FC_ASCII, 8, "ASCII", "aA\n", ""},
+    {FC_UNKNOWN, 8, "Unknown", "aA\n", ""},
+};
+
+static void hold_alphabets(void) {
+    for (size_t i = 0; i < sizeof alphabets / sizeof *alphabets; i++) {
+        uint8_t name[8] = {0}, out[32];
+        uint64_t number = alphabets[i].number;
+        fc_count named = fc_display_name(number, name, sizeof name);
+        hold(alphabets[i].name, named.count == strlen(alphabets[i].name) && !memcmp(name, alphabets[i].name, named.count), 1);
+        hold("bits", fc_bits_per_symbol(number).value, alphabets[i].bits);
+        fc_packed packed = fc_encode_sequence(number, of(alphabets[i].symbols), strlen(alphabets[i].symbols), out, sizeof out);
+        hold("symbols", packed.refusal, FC_ACCEPTED);
+        packed = fc_encode_sequence(number, of(alphabets[i].stranger), strlen(alphabets[i].stranger), out, sizeof out);
+        hold("a stranger", packed.refusal, *alphabets[i].stranger ? FC_REFUSED_NOT_MEMBER : FC_ACCEPTED);
+    }
+    hold("beyond the last alphabet", fc_bits_per_symbol(FC_UNKNOWN + 1).refusal, FC_REFUSED_NO_ALPHABET);
+}
+
+/* Each refusal once, with all that its answer holds. */
+static void hold_refusals(void) {
+    uint8_t out[8], packed[1] = {0x9C};
+    fc_guesser guesser = {15};
+    fc_encoder state = fc_encoder_new(FC_DNA2BIT).next;
+    fc_packed text = fc_encode_sequence(FC_DNA2BIT, of("ACNT"), 4, out, sizeof out);
+    fc_range range = fc_byte_range_for_bases(0, 1, 9);
+    fc_ended ended = fc_stream_end(fc_stream_new(FC_DNA3BIT, 6, 4).next);
+
+    hold("all accepted", fc_encode_sequence(FC_DNA2BIT, of("ACGT"), 4, out, sizeof out).refusal, FC_ACCEPTED);
+    hold("has_bad 0", fc_encoder_update(state, of("A"), 1, out, sizeof out).refusal, FC_ACCEPTED);
+    state.has_bad = 2;
+    hold("has_bad 2, update", fc_encoder_update(state, of("A"), 1, out, sizeof out).refusal, FC_REFUSED_UNSOUND);
+    hold("has_bad 2, finalize", fc_encoder_finalize(state, out, sizeof out).refusal, FC_REFUSED_UNSOUND);
+    state.alphabet = 6;
+    hold("an alphabet's number before it", fc_encoder_finalize(state, out, sizeof out).refusal, FC_REFUSED_NO_ALPHABET);
+    hold("a mask of 15", fc_guesser_guess(guesser).refusal, FC_REFUSED_UNSOUND);
+    hold("2^60", fc_byte_range_for_bases(0, (uint64_t)1 << 60, 2).refusal, FC_ACCEPTED);
+    hold("2^60 + 1", fc_byte_range_for_bases(0, ((uint64_t)1 << 60) + 1, 2).refusal, FC_REFUSED_TOO_FAR);
+    hold("a short fetch", fc_decode_covered(FC_DNA2BIT, packed, 1, 0, 0, 6, out, sizeof out).refusal, FC_REFUSED_UNCOVERED);
+    hold("short memory", fc_decode_covered(FC_DNA2BIT, packed, 1, 0, 0, 4, out, 3).refusal, FC_REFUSED_SHORT_MEMORY);
+    hold("N in Dna2bit", text.refusal, FC_REFUSED_NOT_MEMBER);
+    hold("count with 5", text.count, 0);
+    hold("position with 5", text.position, 2);
+    hold("byte with 5", text.byte, 'N');
+    hold("skip 7", fc_stream_new(FC_DNA2BIT, 7, 1).refusal, FC_ACCEPTED);
+    hold("skip 8", fc_stream_new(FC_DNA2BIT, 8, 1).refusal, FC_REFUSED_BAD_SKIP);
+    hold("an early end", ended.refusal, FC_REFUSED_OUTSTANDING);
+    hold("outstanding with 7", ended.outstanding, 4);
+    hold("9 bits", range.refusal, FC_REFUSED_TOO_WIDE);
+    hold("start with 9", range.start, 0);
+    hold("end with 9", range.end, 0);
+}
+
+static void hold_statuses(void) {
+    uint8_t out[4], source[1] = {0x9C};
+    fc_stream fresh = fc_stream_new(FC_DNA2BIT, 0, 4).next, unsound = {FC_DNA2BIT, 8, 4, 0, 0};
+    hold("no source", fc_stream_read(fresh, source, 0, out, sizeof out).status, FC_HUNGRY);
+    hold("the whole budget", fc_stream_read(fresh, source, 1, out, sizeof out).status, FC_DONE);
+    hold("short memory", fc_stream_read(fresh, source, 1, out, 3).status, FC_FULL);
+    hold("a refused read", fc_stream_read(unsound, source, 1, out, sizeof out).status, 0);
+}
+
+static void hold_lengths(void) {
+    static uint8_t text[64], out[64];
+    const uint64_t far[] = {1000, ((uint64_t)1 << 32) - 1, ((uint64_t)1 << 60) - 3, ((uint64_t)1 << 60) - 1, (uint64_t)1 << 60};
+    for (size_t i = 0; i < sizeof alphabets / sizeof *alphabets; i++) {
+        memset(text, alphabets[i].symbols[1], sizeof text);
+        for (size_t n = 0; n <= sizeof text; n++) {
+            fc_packed packed = fc_encode_sequence(alphabets[i].number, text, n, out, sizeof out);
+            hold("a packed length", fc_packed_length(n, alphabets[i].bits), packed.count);
+        }
+    }
+    for (uint64_t bits = 0; bits <= 8; bits++)
+        for (size_t i = 0; i < sizeof far / sizeof *far; i++)
+            hold("a long packed length", fc_packed_length(far[i], bits), fc_byte_range_for_bases(0, far[i], bits).end);
+    hold("2^64 - 1 symbols of 8 bits", fc_packed_length(UINT64_MAX, 8), UINT64_MAX);
+    hold("2^64 - 1 symbols of 5 bits", fc_packed_length(UINT64_MAX, 5), ((uint64_t)5 << 61));
+    hold("2^64 - 1 symbols of 1 bit", fc_packed_length(UINT64_MAX, 1), (uint64_t)1 << 61);
+    hold("1 symbol of 9 bits", fc_packed_length(1, 9), UINT64_MAX);
+    hold("0 symbols of 2^64 - 1 bits", fc_packed_length(0, UINT64_MAX), UINT64_MAX);
+}
+
+int main(void) {
+    hold("the version", fc_abi_version(), FC_ABI_VERSION);
+    hold_alphabets();
+    hold_refusals();
+    hold_statuses();
+    hold_lengths();
+    printf("%u answers held to the header's constants\n", held);
+    return wrong ? 1 : 0;
+}
