@@ -556,7 +556,7 @@ class _Named(enum.IntEnum):
         return self.name
 
     def __format__(self, spec: str) -> str:
-        return int.__format__(self, spec) if spec[-1:] in tuple("bcdnoxX") else str.__format__(self.name, spec)
+        return int.__format__(self, spec) if spec[-1:] in tuple("bcdeEfFgGnoxX%") else str.__format__(self.name, spec)
 
 
 class Alphabet(_Named):
