@@ -133,4 +133,6 @@ packed-most k count packed =
     let l1 = line-length (displayName k) in
     let l2 = line-length (decimal count) in
     let l3 = line-length (hex packed) in
-    omega (arith, length-append (line (displayName k)) (line (decimal count) ++ line (hex packed)), length-append (line (decimal count)) (line (hex packed)), decimal-short count, hex-length packed)
+    let all = length-append (line (displayName k)) (line (decimal count) ++ line (hex packed)) in
+    let two = length-append (line (decimal count)) (line (hex packed)) in
+    omega (arith, all, two, decimal-short count, hex-length packed)

@@ -15,7 +15,8 @@ use Rattle.lines.proofs.Spelling.{hex-length, hex-append}
 
 -- a byte stored behind what was put
 pub put-byte :
-    (at : ℕ) (xs memory out : List ℕ) (p v : ℕ) → out ≡ putAt at xs memory → p ≡ at + length xs → p < length memory → set out p v ≡ putAt at (xs ++ (v ∷ [])) memory
+    (at : ℕ) (xs memory out : List ℕ) (p v : ℕ) → out ≡ putAt at xs memory → p ≡ at + length xs → p < length memory
+    → set out p v ≡ putAt at (xs ++ (v ∷ [])) memory
 put-byte at xs memory out p v e q h =
     let room : at + length xs ≤ length memory = omega arith in
     rw (e, q) (put-one (at + length xs) v (putAt at xs memory) (omega (arith, put-length at xs memory room)) ∙ put-put at xs memory room (v ∷ []))
@@ -47,7 +48,8 @@ module _ (at : ℕ) (bytes memory out : List ℕ) (i : ℕ) (h : i < length byte
       ∙ ap (λ (w : ℕ). xs ++ (w ∷ digit (v % 16) ∷ [])) (sym fa)
       ∙ ap (λ (w : ℕ). xs ++ (a ∷ w ∷ [])) (sym fb)
       ∙ sym (append-assoc xs (a ∷ []) (b ∷ [])) in
-      put-byte at (xs ++ (a ∷ [])) memory (set out end a) (end + 1) b (put-byte at xs memory out end a e (omega arith) (omega arith)) (omega (arith, length-append xs (a ∷ []))) (omega arith)
+      let one : set out end a ≡ putAt at (xs ++ (a ∷ [])) memory = put-byte at xs memory out end a e (omega arith) (omega arith) in
+      put-byte at (xs ++ (a ∷ [])) memory (set out end a) (end + 1) b one (omega (arith, length-append xs (a ∷ []))) (omega arith)
       ∙ ap (λ (l : List ℕ). putAt at l memory) (sym two ∙ ap hex (sym (take-suc bytes i 0 h) ∙ ap (λ (k : ℕ). take k bytes) (sym (add-one i))))
 
 -- ---- lines

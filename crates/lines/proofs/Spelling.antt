@@ -42,7 +42,9 @@ enough : (k n : ℕ) → n < 10 ^ suc k → decimalIn (suc (suc k)) n ≡ decima
 enough zero n h = in-one 1 n h ∙ sym (in-one 0 n h)
 enough (suc k) n h = go (λ l. enough k (n / 10) l) (decLt n 10)
   where
-    go : (n / 10 < 10 ^ suc k → decimalIn (suc (suc k)) (n / 10) ≡ decimalIn (suc k) (n / 10)) → Dec (n < 10) → decimalIn (suc (suc (suc k))) n ≡ decimalIn (suc (suc k)) n
+    go :
+        (n / 10 < 10 ^ suc k → decimalIn (suc (suc k)) (n / 10) ≡ decimalIn (suc k) (n / 10)) → Dec (n < 10)
+        → decimalIn (suc (suc (suc k))) n ≡ decimalIn (suc (suc k)) n
     go ih (yes few) = in-one (suc (suc k)) n few ∙ sym (in-one (suc k) n few)
     go ih (no many) =
         let more : 10 ≤ n = omega arith in

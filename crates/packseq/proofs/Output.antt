@@ -7,8 +7,8 @@ use native.Mathlib.Nat.{mul-le-mul}
 use native.Mathlib.Omega.{arith}
 use borrow.Author.Tests.{le-leb, lt-leb, leb-true}
 use lib.Dec.{leb}
-use lib.ListN.{length, take, drop, length-append}
-use lib.Seq.{take-at}
+use lib.ListN.{length, take, drop, length-append, length-take}
+use lib.Seq.{take-at, take-all}
 use Rattle.bits.specs.Tables.{Bytes}
 use Rattle.bits.specs.Packing.{bytesFor}
 use Rattle.bits.specs.Memory.{front}
@@ -28,7 +28,9 @@ use Rattle.packing.proofs.Laid.{packing-length}
 use Rattle.lines.specs.Lines.{line, packedLines, refusedLine, putCount, putMemory}
 use Rattle.lines.proofs.Parts.{line-length, put-whole}
 use Rattle.lines.proofs.Made.{refused-most, packed-most}
-use Rattle.packseq.specs.Printed.{longest, most, answered, printed}
+use Rattle.packseq.specs.Input.{room, bytesRead}
+use Rattle.packseq.specs.Printed.{longest, most, packedBytes, answered, printed, output}
+use Rattle.packseq.specs.declared.input.Reading.{Reading}
 
 -- ---- what an accepted call wrote
 
@@ -66,40 +68,49 @@ module _ (text memory out : List ℕ) (kind : AlphabetType) (n : ℕ) (answer : 
     unfolding encodeMemory encodeWrites
     written = o ∙ ap (λ (x : Encoded). front (encodeWrites n text x) memory) (sym a ∙ w)
 
-    pub count-within : count ≤ length out
+    count-within : count ≤ length out
     count-within =
         omega (arith, counted, ap length written, length-append (packing (numbered n) text) (drop (length (packing (numbered n) text)) memory))
 
     -- the bytes that are printed
-    pub packed-part : take count out ≡ packing (coding (guessOf text)) text
+    packed-part : take count out ≡ take count (packing (coding (guessOf text)) text)
     packed-part =
         ap (take count) written
         ∙ take-at (packing (numbered n) text) (drop (length (packing (numbered n) text)) memory) count counted
-        ∙ ap (λ (c : Coding). packing c text) same-coding
+        ∙ sym (take-all count (packing (numbered n) text) (omega (arith, counted)))
+        ∙ ap (λ (c : Coding). take count (packing c text)) same-coding
 
-  -- ---- what is printed for an answer
+  pub packed-within : packedBytes answer ≤ length out
+  unfolding packedBytes
+  packed-within = go answer refl
+    where
+      go : (x : Encoded) → answer ≡ x → packedBytes x ≤ length out
+      go (Encoded.Wrote count) w = count-within count w
+      go (Encoded.Refused q) w = omega arith
 
-  module _ (short : length text ≤ longest) (room : length memory ≡ longest) where
-    by-answer : printed text ≡ answered text answer
-    unfolding printed
-    by-answer =
-        rw (le-leb (length text) longest short)
-        (ap (answered text)
-        (ap (λ (x : AlphabetType). encodeAt (numberOf x) text longest) (sym k)
-        ∙ ap (λ (x : ℕ). encodeAt x text longest) (sym m)
-        ∙ ap (encodeAt n text) (sym room)
-        ∙ sym a))
+  -- what is printed for the answer
+  pub is-answered : length text ≤ longest → length memory ≡ longest → answered kind (length text) answer out ≡ printed text
+  unfolding printed answered
+  is-answered short room = go answer refl ∙ sym by-answer
+    where
+      packed : List ℕ
+      packed = packing (coding (guessOf text)) text
 
-    pub is-packed : (count : ℕ) → answer ≡ Encoded.Wrote count → packedLines kind (length text) (take count out) ≡ printed text
-    unfolding answered
-    is-packed count w =
-        ap (λ (x : AlphabetType). packedLines x (length text) (take count out)) k
-        ∙ ap (packedLines (guessOf text) (length text)) (packed-part count w)
-        ∙ sym (by-answer ∙ ap (answered text) w)
+      by-answer : printed text ≡ answered (guessOf text) (length text) answer packed
+      by-answer =
+          rw (le-leb (length text) longest short)
+          (ap (λ (x : Encoded). answered (guessOf text) (length text) x packed)
+          (ap (λ (x : AlphabetType). encodeAt (numberOf x) text longest) (sym k)
+          ∙ ap (λ (x : ℕ). encodeAt x text longest) (sym m)
+          ∙ ap (encodeAt n text) (sym room)
+          ∙ sym a))
 
-    pub is-refused : (q : Refusal) → answer ≡ Encoded.Refused q → refusedLine q ≡ printed text
-    unfolding answered
-    is-refused q w = sym (by-answer ∙ ap (answered text) w)
+      go : (x : Encoded) → answer ≡ x → answered kind (length text) answer out ≡ answered (guessOf text) (length text) answer packed
+      go (Encoded.Wrote count) w =
+          rw w
+          (ap (λ (x : AlphabetType). packedLines x (length text) (take count out)) k
+          ∙ ap (packedLines (guessOf text) (length text)) (packed-part count w))
+      go (Encoded.Refused q) w = rw w
 
 -- a text that is too long
 pub is-long : (text : List ℕ) → longest < length text → line (bytesOf "too long") ≡ printed text
@@ -117,20 +128,66 @@ pub printed-fits : (text : List ℕ) → length (printed text) ≤ most
 unfolding printed answered bytesOf
 printed-fits text = go (leb (length text) longest) refl (encodeAt (numberOf (guessOf text)) text longest)
   where
-    go : (b : Bool) → leb (length text) longest ≡ b → (e : Encoded) → length (ask b else line (bytesOf "too long") then answered text e) ≤ most
+    packed : List ℕ
+    packed = packing (coding (guessOf text)) text
+
+    go :
+        (b : Bool) → leb (length text) longest ≡ b → (e : Encoded)
+        → length (ask b else line (bytesOf "too long") then answered (guessOf text) (length text) e packed) ≤ most
     go true h (Encoded.Wrote count) =
-        let p : List ℕ = packing (coding (guessOf text)) text in
-        omega (arith, packed-most (guessOf text) (length text) p, packed-short (guessOf text) text (leb-true (length text) longest h))
+        let short = packed-short (guessOf text) text (leb-true (length text) longest h) in
+        omega (arith, packed-most (guessOf text) (length text) (take count packed), length-take count packed, short)
     go true h (Encoded.Refused q) = omega (arith, refused-most q)
     go false h e = omega (arith, line-length (bytesOf "too long"))
 
+-- the lines for each answer
+module _ (kind : AlphabetType) (count : ℕ) (answer : Encoded) (packed : List ℕ) where
+  pub is-packed : (n : ℕ) → answer ≡ Encoded.Wrote n → packedLines kind count (take n packed) ≡ answered kind count answer packed
+  unfolding answered
+  is-packed n w = rw w
+
+  pub is-refused : (q : Refusal) → answer ≡ Encoded.Refused q → refusedLine q ≡ answered kind count answer packed
+  unfolding answered
+  is-refused q w = rw w
+
+pub wrote-within : (answer : Encoded) (n m : ℕ) → answer ≡ Encoded.Wrote n → packedBytes answer ≤ m → n ≤ m
+unfolding packedBytes
+wrote-within answer n m w h = rw w at h
+
+-- lines that were put are those of an answer
+pub put-same :
+    (made wanted memory out : List ℕ) (r : ℕ) → made ≡ wanted → r ≡ putCount made (length memory) → out ≡ putMemory made memory
+    → (r ≡ putCount wanted (length memory)) × (out ≡ putMemory wanted memory)
+put-same made wanted memory out r e q o = (rw e at q, rw e at o)
+
 -- so that all of it is put
 pub all-put :
-    (text made memory out : List ℕ) (r : ℕ) → made ≡ printed text → most ≤ length memory
-    → r ≡ putCount made (length memory) → out ≡ putMemory made memory → (r ≡ length (printed text)) × (out ≡ front (printed text) memory)
-all-put text made memory out r e room q o =
-    let w = put-whole made memory (rw e (omega (arith, printed-fits text))) in
+    (wanted made memory out : List ℕ) (r : ℕ) → length wanted ≤ most → made ≡ wanted → most ≤ length memory
+    → r ≡ putCount made (length memory) → out ≡ putMemory made memory → (r ≡ length wanted) × (out ≡ front wanted memory)
+all-put wanted made memory out r fits e room q o =
+    let w = put-whole made memory (rw e (omega arith)) in
     (q ∙ w .0 ∙ ap length e, o ∙ w .1 ∙ ap (λ (l : List ℕ). front l memory) e)
+
+-- ---- what reading told
+
+pub output-fits : (reading : Reading) (buffer : List ℕ) → length (output reading buffer) ≤ most
+unfolding output bytesOf
+output-fits (Reading.Whole len) buffer = printed-fits (take len buffer)
+output-fits (Reading.More len) buffer = omega (arith, line-length (bytesOf "cannot read"))
+output-fits Reading.Failed buffer = omega (arith, line-length (bytesOf "cannot read"))
+
+-- a text that was read to its end
+module _ (reading : Reading) (len : ℕ) where
+  pub whole-within : (m : ℕ) → reading ≡ Reading.Whole len → bytesRead reading ≤ m → len ≤ m
+  unfolding bytesRead
+  whole-within m w h = rw w at h
+
+  pub is-whole :
+      (buffer memory out : List ℕ) (r : ℕ) → reading ≡ Reading.Whole len
+      → r ≡ length (printed (take len buffer)) → out ≡ front (printed (take len buffer)) memory
+      → (r ≡ length (output reading buffer)) × (out ≡ front (output reading buffer) memory)
+  unfolding output
+  is-whole buffer memory out r w q o = (rw w q, rw w o)
 
 -- ---- the guess leaves no text that is refused
 
@@ -139,7 +196,9 @@ unfolding holdsAll firstFrom
 holds-none k i [] e = refl
 holds-none k i (v ∷ text) e = go (coding k .member v) (λ q. holds-none k (suc i) text q) e
   where
-    go : (b : Bool) → (holdsAll k text ≡ true → firstFrom (coding k) (suc i) text ≡ First.Nothing) → b && holdsAll k text ≡ true → cond b (firstFrom (coding k) (suc i) text) (First.At i v) ≡ First.Nothing
+    go :
+        (b : Bool) → (holdsAll k text ≡ true → firstFrom (coding k) (suc i) text ≡ First.Nothing) → b && holdsAll k text ≡ true
+        → cond b (firstFrom (coding k) (suc i) text) (First.At i v) ≡ First.Nothing
     go true ih q = ih q
     go false ih q = absurd (true≢false (sym q))
 
@@ -151,14 +210,29 @@ known-number AlphabetType.Protein = refl
 known-number AlphabetType.Ascii = refl
 known-number AlphabetType.Unknown = refl
 
+-- ---- the two outputs of a text, with the number that document 01 has
+
 -- three lines for every text of at most 16,384 bytes
 pub three-lines :
-    (text : List ℕ) → Bytes text → length text ≤ longest → printed text ≡ packedLines (guessOf text) (length text) (packing (coding (guessOf text)) text)
+    (text : List ℕ) → Bytes text → length text ≤ 16384 → printed text ≡ packedLines (guessOf text) (length text) (packing (coding (guessOf text)) text)
 unfolding printed answered encodeAt
 three-lines text bytes h =
     let k : AlphabetType = guessOf text in
+    let packed : List ℕ = packing (coding k) text in
     let same : numbered (numberOf k) ≡ coding k = ap coding (kind-number k) in
     let none : firstFrom (coding k) 0 text ≡ First.Nothing = holds-none k 0 text (guess-holds text bytes) in
-    let fits : leb (bytesFor (length text * coding k .width)) longest ≡ true =
-    le-leb (bytesFor (length text * coding k .width)) longest (omega (arith, packing-length (coding k) text, packed-short k text h)) in
+    let count : ℕ = bytesFor (length text * coding k .width) in
+    let long : length packed ≡ count = packing-length (coding k) text in
+    let fits : leb count longest ≡ true = le-leb count longest (omega (arith, long, packed-short k text h)) in
     rw (le-leb (length text) longest h, known-number k, le-leb (length text) limit (omega arith), same, fits, none)
+    (ap (packedLines k (length text)) (take-all count packed (omega (arith, long))))
+
+-- and one for every text that is longer
+pub too-long : (text : List ℕ) → 16384 < length text → printed text ≡ bytesOf "too long" ++ (10 ∷ [])
+unfolding line
+too-long text h = sym (is-long text h)
+
+-- so does a buffer that reading has filled: no longer input passes cut
+pub full-is-too-long : (buffer : List ℕ) → length buffer ≡ room → output (Reading.Whole room) buffer ≡ bytesOf "too long" ++ (10 ∷ [])
+unfolding output
+full-is-too-long buffer h = too-long (take room buffer) (omega (arith, length-take room buffer, h))

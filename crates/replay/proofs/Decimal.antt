@@ -21,7 +21,9 @@ slice-snoc line from i h l =
     let len : length (take i line) ≡ i = length-take-le i line (omega arith) in
     ap (λ (r : List ℕ). drop from r) (take-suc line i 0 l) ∙ drop-append-le from (take i line) (getD line i 0 ∷ []) (omega (arith, len))
 
-pub written-more : (line : List ℕ) (from i v d : ℕ) → from ≤ i → i < length line → d ≡ digitOf (getD line i 0) → v ≡ written (slice from i line) → v * 10 + d ≡ written (slice from (i + 1) line)
+pub written-more :
+    (line : List ℕ) (from i v d : ℕ) → from ≤ i → i < length line → d ≡ digitOf (getD line i 0) → v ≡ written (slice from i line)
+    → v * 10 + d ≡ written (slice from (i + 1) line)
 written-more line from i v d h l e k =
     let n : suc i ≡ i + 1 = omega arith in
     let digits = slice from i line in

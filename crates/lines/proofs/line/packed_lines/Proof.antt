@@ -5,8 +5,12 @@ use native.Mathlib.Omega.{arith}
 use borrow.Author.Needs.{needs}
 use lib.ListN.{length, take, drop}
 use lib.Seq.{length-take-le}
+use Rattle.alphabet.specs.declared.kind.AlphabetType.{AlphabetType}
+use Rattle.alphabet.specs.declared.kind.Name.{Name}
+use Rattle.alphabet.specs.Names.{nameOf}
 use Rattle.alphabet.proofs.Calls.{name-within}
 use Rattle.lines.specs.Digits.{decimal}
+use Rattle.lines.specs.Spelt.{Spelt}
 use Rattle.lines.specs.Lines.{line, packedLines}
 use Rattle.lines.proofs.Spelling.{hex-length}
 use Rattle.lines.proofs.Parts.{line-length, put-short}
@@ -14,32 +18,70 @@ use Rattle.lines.proofs.Made.{part-digits, digits-length, part-name, na
 use Rattle.lines.proofs.line.packed_lines.Statement.{statement}
 use Rattle.lines.proofs.line.packed_lines.Tie as tie
 
--- where name and digits are known: how long the lines are, and the parts that are put
+-- where name and digits are known: what each is, how long the lines are, and the parts that are put
 module _ (b : tie.After-digits) where
-  whole-length :
-      length (packedLines (b .before .before .before .before .before .before .args .kind) (b .before .before .before .before .before .before .args .count) (b .before .before .before .before .before .before .args .packed .now))
-      ≡ b .before .before .before .display-name .result .len + (20 - b .before .decimal .result .from) + 3 + 2 * length (b .before .before .before .before .before .before .args .packed .now)
-  whole-length =
-      packed-length (b .before .before .before .before .before .before .args .kind) (b .before .before .before .display-name .result) (b .before .before .before .display-name .ensures) (b .before .before .before .before .before .before .args .count) (b .before .decimal .result .bytes) (b .before .decimal .result .from) (b .before .decimal .ensures) (b .before .before .before .before .before .before .args .packed .now)
+  abbrev named : tie.After-display-name
+  named = b .before .before .before
 
-  first-length :
-      length (line (take (b .before .before .before .display-name .result .len) (b .before .before .before .display-name .result .bytes))) ≡ b .before .before .before .display-name .result .len + 1
+  abbrev start : tie.Start
+  start = named .before .before .before
+
+  abbrev kind : AlphabetType
+  kind = start .args .kind
+
+  abbrev count : ℕ
+  count = start .args .count
+
+  abbrev packed : List ℕ
+  packed = start .args .packed .now
+
+  abbrev memory : List ℕ
+  memory = start .args .out .now
+
+  abbrev name : Name
+  name = named .display-name .result
+
+  abbrev digits : List ℕ
+  digits = b .before .decimal .result .bytes
+
+  abbrev from : ℕ
+  from = b .before .decimal .result .from
+
+  is-name : name ≡ nameOf kind
+  is-name = named .display-name .ensures
+
+  is-spelt : Spelt count digits from
+  is-spelt = b .before .decimal .ensures
+
+  whole-length : length (packedLines kind count packed) ≡ name .len + (20 - from) + 3 + 2 * length packed
+  whole-length = packed-length kind name is-name count digits from is-spelt packed
+
+  first-length : length (line (take (name .len) (name .bytes))) ≡ name .len + 1
   first-length =
-      let n = b .before .before .before .display-name in
-      line-length (take (n .result .len) (n .result .bytes)) ∙ ap (λ (m : ℕ). m + 1) (length-take-le (n .result .len) (n .result .bytes) (name-within (n .result) (b .before .before .before .before .before .before .args .kind) (n .ensures)))
+      line-length (take (name .len) (name .bytes))
+      ∙ ap (λ (m : ℕ). m + 1) (length-take-le (name .len) (name .bytes) (name-within name kind is-name))
 
-  second : take (20 - b .before .decimal .result .from) (drop (b .before .decimal .result .from) (b .before .decimal .result .bytes)) ≡ decimal (b .before .before .before .before .before .before .args .count)
-  second = part-digits (b .before .before .before .before .before .before .args .count) (b .before .decimal .result .bytes) (b .before .decimal .result .from) (b .before .decimal .ensures)
+  second : take (20 - from) (drop from digits) ≡ decimal count
+  second = part-digits count digits from is-spelt
 
-  second-length :
-      length (line (take (20 - b .before .decimal .result .from) (drop (b .before .decimal .result .from) (b .before .decimal .result .bytes)))) ≡ 20 - b .before .decimal .result .from + 1
+  second-length : length (line (take (20 - from) (drop from digits))) ≡ 20 - from + 1
   second-length =
-      ap (λ (l : List ℕ). length (line l)) second ∙ line-length (decimal (b .before .before .before .before .before .before .args .count)) ∙ ap (λ (m : ℕ). m + 1) (digits-length (b .before .before .before .before .before .before .args .count) (b .before .decimal .result .bytes) (b .before .decimal .result .from) (b .before .decimal .ensures))
+      ap (λ (l : List ℕ). length (line l)) second ∙ line-length (decimal count) ∙ ap (λ (m : ℕ). m + 1) (digits-length count digits from is-spelt)
+
+  short : name .len ≤ 7
+  short = name-short kind name is-name
 
 -- where they fit
-room :
-    (e : tie.Else2) → e .before .before .before .before .before .display-name .result .len + (20 - e .before .before .before .decimal .result .from) + 3 + 2 * length (e .before .before .before .before .before .before .before .before .args .packed .now) ≤ length (e .before .before .before .before .before .before .before .before .args .out .now)
+room : (e : tie.Else2) → let b = e .before .before in name b .len + (20 - from b) + 3 + 2 * length (packed b) ≤ length (memory b)
 room e = omega (arith, e .if2 .left, e .before .if1 .left)
+
+-- where the name's line was put
+module _ (p : tie.After-put-line) where
+  abbrev fitting : tie.Else2
+  fitting = p .before .before .before
+
+  abbrev known : tie.After-digits
+  known = fitting .before .before
 
 display-name-requires : tie.Need-display-name-requires
 display-name-requires c κs = search needs
@@ -48,43 +90,45 @@ decimal-requires : tie.Need-decimal-requires
 decimal-requires c κs = search needs
 
 sub-plain : tie.Need-sub-plain
-sub-plain c = c .before .decimal .ensures .within
+sub-plain c = is-spelt c .within
 
 add-plain : tie.Need-add-plain
-add-plain c = omega (arith, name-short (c .before .before .before .before .before .before .args .kind) (c .before .before .before .display-name .result) (c .before .before .before .display-name .ensures))
+add-plain c = omega (arith, short c)
 
 add-plain-2 : tie.Need-add-plain-2
-add-plain-2 c = omega (arith, name-short (c .before .before .before .before .before .before .args .kind) (c .before .before .before .display-name .result) (c .before .before .before .display-name .ensures))
+add-plain-2 c = omega (arith, short c)
 
 returns : tie.Need-returns
 returns c =
-    let a = c .before .before .before .before .before .before .before .args in
-    put-short (packedLines (a .kind) (a .count) (a .packed .now)) (a .out .now) (omega (arith, c .if1 .taken, whole-length (c .before)))
+    let b = c .before in
+    put-short (packedLines (kind b) (count b) (packed b)) (memory b) (omega (arith, c .if1 .taken, whole-length b))
 
 sub-if2 : tie.Need-sub-if2
 sub-if2 c = search needs
 
 returns-2 : tie.Need-returns-2
 returns-2 c =
-    let a = c .before .before .before .before .before .before .before .before .args in
-    put-short (packedLines (a .kind) (a .count) (a .packed .now)) (a .out .now) (omega (arith, c .if2 .taken, c .before .if1 .left, whole-length (c .before .before)))
+    let b = c .before .before in
+    put-short (packedLines (kind b) (count b) (packed b)) (memory b) (omega (arith, c .if2 .taken, c .before .if1 .left, whole-length b))
 
 array-share-prefix-letters : tie.Need-array-share-prefix-letters
-array-share-prefix-letters c = name-within (c .before .before .before .before .before .display-name .result) (c .before .before .before .before .before .before .before .before .args .kind) (c .before .before .before .before .before .display-name .ensures)
+array-share-prefix-letters c =
+    let b = c .before .before in
+    name-within (name b) (kind b) (is-name b)
 
 slice-aggregate-put-line : tie.Need-slice-aggregate-put-line
 slice-aggregate-put-line c =
-    let n = c .before .before .before .before .before .before .display-name in
-    sym (length-take-le (n .result .len) (n .result .bytes) (name-within (n .result) (c .before .before .before .before .before .before .before .before .before .args .kind) (n .ensures)))
+    let b = c .before .before .before in
+    sym (length-take-le (name b .len) (name b .bytes) (name-within (name b) (kind b) (is-name b)))
 
 put-line-requires : tie.Need-put-line-requires
 put-line-requires c κs = omega (arith, room (c .before .before), first-length (c .before .before .before .before))
 
 sub-put-line : tie.Need-sub-put-line
-sub-put-line c = c .before .before .before .before .before .before .before .before .decimal .ensures .within
+sub-put-line c = is-spelt (known (c .before .before)) .within
 
 part-put-line-start : tie.Need-part-put-line-start
-part-put-line-start c = c .before .before .before .before .before .before .before .before .before .decimal .ensures .within
+part-put-line-start c = is-spelt (known (c .before .before .before)) .within
 
 part-put-line-end : tie.Need-part-put-line-end
 part-put-line-end c = search needs
@@ -92,26 +136,32 @@ part-put-line-end c = search needs
 put-line-requires-2 : tie.Need-put-line-requires-2
 put-line-requires-2 c κs =
     let p = c .before .before .before .before .before in
-    let e = p .before .before .before in
-    let b = e .before .before in
-    omega (arith, room e, first-length b, second-length b, p .put-line .ensures .0, p .put-line .kept .1 .1 .0)
+    omega (arith, room (fitting p), first-length (known p), second-length (known p), p .put-line .ensures .0, p .put-line .kept .1 .1 .0)
+
+-- where the count's line was put: how much memory is left
+module _ (q : tie.After-put-line2) where
+  abbrev first : tie.After-put-line
+  first =
+      let lent = q .before .before .before in
+      lent .before .before .before
+
+  left-over : q .put-line2 .result + 2 * length (packed (known first)) + 1 ≤ length (q .put-line2 .last .1 .1 .0)
+  left-over =
+      let p = first .put-line in
+      let b = known first in
+      let l = q .put-line2 in
+      omega (arith, room (fitting first), first-length b, second-length b, p .ensures .0, p .kept .1 .1 .0, l .ensures .0, l .kept .1 .1 .0)
 
 put-hex-requires : tie.Need-put-hex-requires
 put-hex-requires c κs =
-    let p2 = c .before .before .before in
-    let p = p2 .before .before .before .before .before .before in
-    let e = p .before .before .before in
-    let b = e .before .before in
-    omega (arith, room e, first-length b, second-length b, hex-length (b .before .before .before .before .before .before .args .packed .now), p .put-line .ensures .0, p .put-line .kept .1 .1 .0, p2 .put-line2 .ensures .0, p2 .put-line2 .kept .1 .1 .0)
+    let q = c .before .before .before in
+    omega (arith, left-over q, hex-length (packed (known (first q))))
 
 put-end-requires : tie.Need-put-end-requires
 put-end-requires c κs =
     let h = c .before .before .before in
-    let p2 = h .before .before .before .before in
-    let p = p2 .before .before .before .before .before .before in
-    let e = p .before .before .before in
-    let b = e .before .before in
-    omega (arith, room e, first-length b, second-length b, hex-length (b .before .before .before .before .before .before .args .packed .now), p .put-line .ensures .0, p .put-line .kept .1 .1 .0, p2 .put-line2 .ensures .0, p2 .put-line2 .kept .1 .1 .0, h .put-hex .ensures .0, h .put-hex .kept .1 .1 .0)
+    let q = h .before .before .before .before in
+    omega (arith, left-over q, hex-length (packed (known (first q))), h .put-hex .ensures .0, h .put-hex .kept .1 .1 .0)
 
 same-length : tie.Need-same-length
 same-length c = search needs
@@ -119,17 +169,18 @@ same-length c = search needs
 returns-3 : tie.Need-returns-3
 returns-3 c =
     let z = c .before .before .put-end in
-    let at-hex = c .before .before .before .before .before .before in
-    let at-second = at-hex .before .before .before .before in
-    let at-first = at-second .before .before .before .before .before .before in
-    let h = at-hex .put-hex in
-    let p2 = at-second .put-line2 in
-    let p = at-first .put-line in
-    let e = at-first .before .before .before in
-    let a = e .before .before .before .before .before .before .before .before .args in
-    let n = e .before .before .before .before .before .display-name in
-    let d = e .before .before .before .decimal in
-    packed-made (a .kind) (n .result) (n .ensures) (a .count) (d .result .bytes) (d .result .from) (d .ensures) (a .packed .now) (a .out .now) (p .last .1 .1 .0) (p2 .last .1 .1 .0) (h .last .1 .1 .0) (z .last .1 .0) _ _ (p .result) (p2 .result) (h .result) (z .result) (room e) (part-name (a .kind) (n .result) (n .ensures)) (p .ensures .0) (p .ensures .1) (second (e .before .before)) (p2 .ensures .0) (p2 .ensures .1) (h .ensures .0) (h .ensures .1) (z .ensures .0) (z .ensures .1)
+    let lent = c .before .before .before .before in
+    let hexed = lent .before .before in
+    let q = hexed .before .before .before .before in
+    let h = hexed .put-hex in
+    let p2 = q .put-line2 in
+    let p = first q .put-line in
+    let e = fitting (first q) in
+    let b = known (first q) in
+    packed-made (kind b) (name b) (is-name b) (count b) (digits b) (from b) (is-spelt b) (packed b) (memory b)
+    (p .last .1 .1 .0) (p2 .last .1 .1 .0) (h .last .1 .1 .0) (z .last .1 .0) _ _ (p .result) (p2 .result) (h .result) (z .result) (room e)
+    (part-name (kind b) (name b) (is-name b)) (p .ensures .0) (p .ensures .1) (second b) (p2 .ensures .0) (p2 .ensures .1)
+    (h .ensures .0) (h .ensures .1) (z .ensures .0) (z .ensures .1)
 
 pub packed-lines-spec : {M : Type 1} → statement M
 packed-lines-spec =

@@ -19,8 +19,10 @@ same-length c = search needs
 returns-2 : tie.Need-returns-2
 returns-2 c =
     let p = c .before .before .put-line in
-    let a = c .before .before .before .before .before .before .before .args in
-    put-fits (line (a .text .now)) (a .out .now) (p .last .1 .1 .0) (p .result) (omega (arith, p .ensures .0), p .ensures .1) (omega (arith, c .before .before .before .before .if1 .left, line-length (a .text .now)))
+    let e = c .before .before .before .before in
+    let a = e .before .before .before .args in
+    put-fits (line (a .text .now)) (a .out .now) (p .last .1 .1 .0) (p .result) (omega (arith, p .ensures .0), p .ensures .1)
+    (omega (arith, e .if1 .left, line-length (a .text .now)))
 
 pub text-line-spec : {M : Type 1} → statement M
 text-line-spec = tie.close (tie.spec returns put-line-requires same-length returns-2)

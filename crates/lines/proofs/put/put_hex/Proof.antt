@@ -70,8 +70,14 @@ loop-again c =
     let v = c .before .before .place in
     let high = c .before .digit in
     let low = c .digit2 in
-    let taken = c .before .before .before .before .loop-test .taken in
-    (refl, omega (arith, taken), simp length-set (o .inv .2), omega (arith, o .inv .3), hex-turn (a .at) (a .bytes .now) (a .out .now) (o .out) (o .i) (omega (arith, taken)) (s .pre) (o .end) (high .result) (low .result) (v .result) (o .inv .4) (o .inv .3) (v .ensures .0) (high .ensures) (low .ensures))
+    let taken = c .before .before .before .before .loop-test .taken in (
+      refl,
+      omega (arith, taken),
+      simp length-set (o .inv .2),
+      omega (arith, o .inv .3),
+      hex-turn (a .at) (a .bytes .now) (a .out .now) (o .out) (o .i) (omega (arith, taken)) (s .pre) (o .end) (high .result) (low .result) (v .result)
+          (o .inv .4) (o .inv .3) (v .ensures .0) (high .ensures) (low .ensures),
+    )
 
 same-length : tie.Need-same-length Inv-loop μ-loop
 same-length c = search needs

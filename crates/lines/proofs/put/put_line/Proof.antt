@@ -11,8 +11,9 @@ put-text-requires c κs =
 
 put-end-requires : tie.Need-put-end-requires
 put-end-requires c κs =
-    let t = c .before .before .before .put-text in
-    let s = c .before .before .before .before .before .before .before in
+    let w = c .before .before .before in
+    let t = w .put-text in
+    let s = w .before .before .before .before in
     omega (arith, t .ensures .0, t .kept .1 .1 .0, s .pre, line-length (s .args .text .now))
 
 same-length : tie.Need-same-length
@@ -21,9 +22,12 @@ same-length c = search needs
 returns : tie.Need-returns
 returns c =
     let n = c .before .before .put-end in
-    let t = c .before .before .before .before .before .before .put-text in
-    let s = c .before .before .before .before .before .before .before .before .before .before in
-    end-put (s .args .at) (s .args .text .now) (s .args .out .now) (t .last .1 .1 .0) (n .last .1 .0) (t .result) (n .result) (s .pre) (t .ensures .0) (t .ensures .1) (n .ensures .0) (n .ensures .1)
+    let lent = c .before .before .before in
+    let w = lent .before .before .before in
+    let t = w .put-text in
+    let s = w .before .before .before .before in
+    end-put (s .args .at) (s .args .text .now) (s .args .out .now) (t .last .1 .1 .0) (n .last .1 .0) (t .result) (n .result) (s .pre)
+    (t .ensures .0) (t .ensures .1) (n .ensures .0) (n .ensures .1)
 
 pub put-line-spec : {M : Type 1} → statement M
 put-line-spec = tie.close (tie.spec put-text-requires put-end-requires same-length returns)
