@@ -18,8 +18,6 @@
 
 #define FREELY 4096 /* so many bytes are allocated before it is asked whether the call is refused, and handled without giving up the interpreter's lock */
 
-enum { HUNGRY = 1, FULL = 3 }; /* statuses of a stream */
-
 typedef struct { PyObject *refuse; } module_state;
 
 /* The numbers of a window; those that a call does not take are 0. */
@@ -113,12 +111,12 @@ static PyObject *room_for(call *c, uint64_t room) {
     if (room > FREELY) {
         call asked = *c;
         fc_packed answer = asked.make(&asked, NULL, 0);
-        if (answer.refusal != 0 && answer.refusal != 4) return refused_call(c, answer);
+        if (answer.refusal != FC_ACCEPTED && answer.refusal != FC_REFUSED_SHORT_MEMORY) return refused_call(c, answer);
     }
     PyObject *out = room <= PY_SSIZE_T_MAX ? PyBytes_FromStringAndSize(NULL, (Py_ssize_t)room) : NULL;
     if (out != NULL) return out;
     PyErr_Clear();
-    return refused(c->module, 4, 0, 0);
+    return refused(c->module, FC_REFUSED_SHORT_MEMORY, 0, 0);
 }
 
 /* What a call writes, as a new bytes object. */
@@ -232,8 +230,7 @@ static fc_packed make_encode(call *c, uint8_t *out, size_t room) {
 static PyObject *encode(PyObject *module, arguments given, PyObject *out) {
     call c = {.module = module, .make = make_encode};
     if (!number(given[0], &c.of.window.alphabet) || PyObject_GetBuffer(given[1], &c.input, PyBUF_SIMPLE) < 0) return NULL;
-    uint64_t bits = bits_of(c.of.window.alphabet), len = (uint64_t)c.input.len;
-    return finished(&c, len / 8 * bits + (len % 8 * bits + 7) / 8, out);
+    return finished(&c, fc_packed_length((uint64_t)c.input.len, bits_of(c.of.window.alphabet)), out);
 }
 
 static PyObject *encode_sequence(PyObject *module, arguments given, Py_ssize_t count) {
@@ -396,7 +393,7 @@ static PyObject *stream_read(PyObject *module, arguments given, Py_ssize_t count
     if (out != NULL) answer = streamed(state, &source, (uint8_t *)PyBytes_AsString(out), room);
     PyBuffer_Release(&source);
     if (out == NULL) return NULL;
-    if (answer.status == FULL && answer.written < most) answer.status = HUNGRY;
+    if (answer.status == FC_FULL && answer.written < most) answer.status = FC_HUNGRY;
     PyObject *bases = out;
     if (answer.refusal != 0) bases = refused(module, answer.refusal, 0, 0);
     else if (answer.written != room) bases = PyBytes_FromStringAndSize(PyBytes_AsString(out), (Py_ssize_t)answer.written);

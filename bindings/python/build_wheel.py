@@ -19,6 +19,7 @@ NAME = "fantailclock"
 VERSION = re.search(r'^version = "(.+)"$', (HERE / "pyproject.toml").read_text(), re.MULTILINE)[1]
 METADATA = f"Metadata-Version: 2.1\nName: {NAME}\nVersion: {VERSION}\nRequires-Python: >=3.9\n"
 ABOUT = f"{NAME}-{VERSION}.dist-info"
+TERMS = ["LICENSE", "NOTICE"]  # which go with every copy
 
 
 class UnsupportedOperation(Exception):
@@ -59,6 +60,7 @@ def build_wheel(wheel_directory, config_settings=None, metadata_directory=None):
         files = {f"{NAME}/__init__.py": (HERE / "fantailclock.py").read_bytes(), f"{NAME}/py.typed": b""}
         files.update({f"{NAME}/{each.name}": each.read_bytes() for each in objects})
         files.update({f"{ABOUT}/METADATA": METADATA.encode(), f"{ABOUT}/WHEEL": wheel.encode()})
+        files.update({f"{ABOUT}/{each}": (HERE.parents[1] / each).read_bytes() for each in TERMS})
         files[f"{ABOUT}/RECORD"] = record(files).encode()
     name = f"{NAME}-{VERSION}-{tag(objects)}.whl"
     with zipfile.ZipFile(pathlib.Path(wheel_directory) / name, "w", zipfile.ZIP_DEFLATED) as archive:

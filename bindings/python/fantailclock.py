@@ -273,16 +273,16 @@ lib: ctypes.CDLL = _load()
 
 
 def _extension():
-    """The extension module that stands beside the shared object, with its version tested; None where there is none, or
-    ctypes is asked for."""
+    """The extension module that stands beside the shared object, with its version tested; None where there is none, where
+    the shared object was named without a folder, so that the system found it, or where ctypes is asked for."""
     asked = os.environ.get("FANTAILCLOCK_WAY")
     if asked not in (None, "", "ctypes", "extension"):
         raise ImportError(f"FANTAILCLOCK_WAY is {asked}, not extension or ctypes")
-    folder = pathlib.Path(lib._name).parent
-    names = [folder / f"_fantailclock{suffix}" for suffix in importlib.machinery.EXTENSION_SUFFIXES]
-    path = next((name for name in names if name.exists()), None)
+    folder = os.path.dirname(lib._name)
+    names = [os.path.join(folder, f"_fantailclock{suffix}") for suffix in importlib.machinery.EXTENSION_SUFFIXES]
+    path = next((name for name in names if folder and os.path.exists(name)), None)
     if asked == "extension" and path is None:
-        raise ImportError(f"no extension module in {folder}; make it with bindings/python/build")
+        raise ImportError(f"no extension module beside {lib._name}; make it with bindings/python/build")
     if asked == "ctypes" or path is None:
         return None
     spec = importlib.util.spec_from_file_location("_fantailclock", path)
@@ -556,7 +556,7 @@ class _Named(enum.IntEnum):
         return self.name
 
     def __format__(self, spec: str) -> str:
-        return int.__format__(self, spec) if spec[-1:] in tuple("bcdnoxX") else str.__format__(self.name, spec)
+        return int.__format__(self, spec) if spec[-1:] in tuple("bcdeEfFgGnoxX%") else str.__format__(self.name, spec)
 
 
 class Alphabet(_Named):

@@ -3,11 +3,15 @@
 import enum
 import inspect
 import io
+import pathlib
+import re
 import typing
 import unittest
 
 import fantailclock as fc
 from fantailclock import Alphabet, Status
+
+HEADER = (pathlib.Path(__file__).resolve().parents[2] / "include/fantailclock.h").read_text()
 
 
 def public():
@@ -41,6 +45,14 @@ class Names(unittest.TestCase):
         self.assertEqual(f"{Alphabet.Protein:d} {Alphabet.Protein:02x} %d" % Alphabet.Protein, "3 03 3")
         self.assertEqual((Alphabet.Protein, int(Status.Full), Alphabet(5).name), (3, 3, "Unknown"))
         self.assertIsInstance(Alphabet.Protein, enum.IntEnum)
+
+    def test_the_numbers_are_the_header_s(self):
+        version = re.search(r"^#define FC_ABI_VERSION (\d+)$", HEADER, re.MULTILINE)[1]
+        self.assertEqual((int(version), fc.lib.fc_abi_version()), (fc.ABI_VERSION, fc.ABI_VERSION))
+        words = {name.replace("_", "").lower(): int(number) for name, number in re.findall(r"\bFC_(\w+) = (\d+)", HEADER)}
+        expected = {each.name.lower(): each.value for each in (*Alphabet, *Status)}
+        expected.update({f"refused{refusal.__name__.lower()}": number for number, refusal in fc._REFUSALS.items()})
+        self.assertEqual(words, {**expected, "accepted": 0})
 
     def test_each_public_name_has_a_docstring(self):
         names = dict(public())

@@ -356,6 +356,8 @@ class Found(unittest.TestCase):
                 shutil.copy(fc._calls.__file__, elsewhere)
                 self.assertEqual(self.imported(elsewhere), "Dna3bit extension")
                 self.assertEqual(self.imported(elsewhere, FANTAILCLOCK_WAY="ctypes"), "Dna3bit ctypes")
+                found = {"FANTAILCLOCK_SO": "libfantailclock.so", "LD_LIBRARY_PATH": elsewhere}  # by the system, not in this folder
+                self.assertEqual(self.imported(elsewhere, **found), "Dna3bit ctypes")
 
     def test_the_way_that_was_asked_for(self):
         asked = os.environ.get("FANTAILCLOCK_WAY")

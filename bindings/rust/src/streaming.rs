@@ -117,8 +117,8 @@ const CHUNK: usize = 8192;
 ///
 /// Of the source it reads just the bytes that the bases asked for need, nothing ahead, so small reads are best asked of a
 /// buffered source. To go base by base use `BufReader::new(decoder).bytes()`, a nanosecond each: it reads ahead, though never
-/// a byte beyond the window; `.bytes()` of the decoder itself makes a call of the library for each base, which costs 70 times
-/// as much. Where the source ends with bases outstanding, the bases that it gave are handed out first; then every
+/// a byte beyond the window; `.bytes()` of the decoder itself makes a call of the library for each base, which costs some
+/// fifty times as much. Where the source ends with bases outstanding, the bases that it gave are handed out first; then every
 /// read is an error of kind `UnexpectedEof` that holds [`Error::Outstanding`]. An `Ok(0)` for a buffer with room thus
 /// means that the whole window was read.
 ///

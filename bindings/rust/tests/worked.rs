@@ -163,6 +163,8 @@ fn names_numbers_and_bits() {
     }
     assert_eq!(Alphabet::try_from(6), Err(Error::NoAlphabet));
     assert_eq!(Alphabet::try_from(1 << 32), Err(Error::NoAlphabet));
+    let header = include_str!("../../../include/fantailclock.h");
+    assert!(header.contains(&format!("\n#define FC_ABI_VERSION {ABI_VERSION}\n")));
     assert_eq!(abi_version(), ABI_VERSION);
 }
 
