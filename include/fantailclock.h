@@ -12,9 +12,9 @@
  *   - fc_guesser_guess, fc_encoder_finalize and fc_stream_end hand no state back, refused or not: it went in by value, and the caller still holds it;
  *   - a start has no state to hand back: it echoes its arguments in `next`, with zeros beside them, so that this state is refused again.
  *
- * States. They are plain numbers, and every call judges the one that it gets. An `alphabet` above 5 is refused by 8, before all else. Any other number that
- * no encoder, stream or guesser can hold makes the state unsound, which is refused by 1: a `has_bad` above 1, for instance, or a `pending`, a `pending_bits`
- * or (where `has_bad` is 1) a `bad_byte` above 255.
+ * States. They are plain numbers, and every call judges the one that it gets. An `alphabet` above 5 is refused by 8, before all else. A state that no
+ * guesser, encoder or stream can be in is unsound, and is refused by 1. `has_bad` is 0 or 1: a state in which it is more is unsound and refused by 1, and so is
+ * one with a `pending`, a `pending_bits` or (where `has_bad` is 1) a `bad_byte` above 255.
  *
  * Memory. A pointer with a length names that many bytes, which the caller owns and which nothing else may write during the call. Where the length is 0
  * nothing is read or written through the pointer, which may then be any, null too. INPUT AND OUTPUT MEMORY OF ONE CALL MUST NOT OVERLAP: no call can notice
