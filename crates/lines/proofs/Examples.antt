@@ -21,4 +21,14 @@ pub record Examples : Type 0 where
 
 pub examples : Examples
 unfolding digit decimalIn decimal hex line packedLines refusedLine bytesOf
-examples = record { zero-digit = refl; two-digits = refl; five-digits = refl; twenty-digits = refl; in-hex = refl; packed = rw (names .of-dna2bit); empty = rw (names .of-dna2bit); refused = refl }
+examples =
+    record {
+      zero-digit = refl;
+      two-digits = refl;
+      five-digits = refl;
+      twenty-digits = refl;
+      in-hex = refl;
+      packed = rw (names .of-dna2bit);
+      empty = rw (names .of-dna2bit);
+      refused = refl;
+    }
