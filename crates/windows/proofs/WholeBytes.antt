@@ -31,7 +31,7 @@ use Rattle.windows.proofs.Turns.{Written, more-written, entry}
 -- ---- blocks: c bases, b bits wide, that fill n bytes
 
 -- c bases, of which the first begins with byte j
-pub window-block : (A : Coding) (lent : List ℕ) (offset c n i j : ℕ) → i * A .width ≡ j * 8 → c * A .width ≡ n * 8
+window-block : (A : Coding) (lent : List ℕ) (offset c n i j : ℕ) → i * A .width ≡ j * 8 → c * A .width ≡ n * 8
     → window A lent offset i c ≡ symbolsOf A c (word (bitAt 8 (fileByte lent offset)) (j * 8) (n * 8))
 unfolding window codesFrom symbolsOf
 window-block A lent offset c n i j first whole = ap (map (A .symbol)) (block-codes (fileByte lent offset) (A .width) c n i j first whole)

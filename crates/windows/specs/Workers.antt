@@ -22,7 +22,7 @@ pub record Fits (start count from room : ℕ) : Type 0 where
 abbrev pub Passed : Read → ℕ → ℕ → Type 0
 Passed answer start room = (n : ℕ) → answer ≡ Read.Bases n → (n ≡ 0 → ⊥) → Fits start n 0 room
 
--- the kind whose symbols an engine writes, where another is asked for
+-- the kind whose symbols an engine writes: that of its own alphabet, or the one that is asked for
 abbrev pub served : Engine → AlphabetType → AlphabetType
 served Engine.Own kind = kind
 served Engine.Rows kind = Dna2bit
