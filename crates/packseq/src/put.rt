@@ -25,10 +25,14 @@ fn put_answer(
     ensures { λ r. ⌜ r ≡ putCount (answered kind count answer (now (packed .entry))) (length (now (out .entry))) ⌝ }
     ensures memory { λ _. ⌜ now (out .exit) ≡ putMemory (answered kind count answer (now (packed .entry))) (now (out .entry)) ⌝ }
 {
-    match answer {
-        Encoded::Wrote(n) => lines::packed_lines(kind, count, &packed[..n], out),
-        Encoded::Refused(refusal) => lines::refused_line(refusal, out),
-    }
+    let Encoded::Wrote(n) = answer else {
+        // an answer is one of the two, so nothing is left to print here
+        let Encoded::Refused(refusal) = answer else {
+            return 0;
+        };
+        return lines::refused_line(refusal, out);
+    };
+    lines::packed_lines(kind, count, &packed[..n], out)
 }
 
 // Puts the whole output for a text at the front of `out`, and answers how long it is.
