@@ -4,25 +4,25 @@ use mathlib.Core.Bool.{Bool, true, false, _&&_, true≢false}
 use mathlib.Core.List.{List, [], _∷_, _++_}
 use Prim.Native.Nat.{ℕ, zero, suc, _≤_, _<_}
 use native.Mathlib.Omega.{arith}
-use borrow.Author.Tests.{le-leb, leb-true}
+use borrow.Author.Tests.{le-leb, leb-true, leb-false}
 use lib.Count.{trailingZeros}
 use lib.Dec.{leb, lit≤}
-use lib.ListN.{length, getD, take}
-use Rattle.alphabet.specs.Symbols.{bytesOf}
-use Rattle.bits.specs.Tables.{Bytes}
+use lib.ListN.{length, getD, take, List·getD-eq-default}
+use Rattle.alphabet.specs.Symbols.{bytesOf, coding}
+use Rattle.bits.specs.Tables.{at, Bytes}
 use Rattle.alphabet.specs.Questions.{ask_else_then_, accepted, refused, by, refusalReply}
 use Rattle.alphabet.specs.declared.refusal.Refusal.{Refusal}
-use Rattle.alphabet.specs.Names.{displayName, nameOf, numberOf, known, kindOf, namedAt}
+use Rattle.alphabet.specs.Names.{displayName, nameOf, kinds, numberOf, known, kindOf, namedAt}
 use Rattle.alphabet.specs.Guess.{order, masked, lowest, guessOf, freshGuesser, soundGuesser, guesserUpdateAt, guessAt}
 use Rattle.alphabet.specs.Answers.{namedReply, namedTold, guesserUpdatedReply, guesserUpdateTold, guessedReply, guessTold}
 use Rattle.alphabet.specs.declared.kind.AlphabetType.{AlphabetType}
-use Rattle.alphabet.specs.declared.kind.AlphabetType.the-variants.{Unknown}
+use Rattle.alphabet.specs.declared.kind.AlphabetType.the-variants.{Dna2bit, Dna3bit, DnaIupac, Protein, Ascii, Unknown}
 use Rattle.alphabet.specs.declared.kind.Name.{Name}
 use Rattle.alphabet.specs.declared.kind.Named.{Named}
 use Rattle.alphabet.specs.declared.guesser.AlphabetGuesser.{AlphabetGuesser}
 use Rattle.alphabet.specs.declared.guesser.GuesserUpdated.{GuesserUpdated}
 use Rattle.alphabet.specs.declared.guesser.Guessed.{Guessed}
-use Rattle.alphabet.proofs.Masks.{masked-append, masked-le, masked-sound, zeros-lt}
+use Rattle.alphabet.proofs.Masks.{masked-append, masked-le, masked-sound, zeros-lt, guess-holds, holds-each}
 
 -- ---- numbers
 
@@ -66,12 +66,19 @@ number-kind (suc (suc (suc (suc (suc (suc n)))))) h = absurd (omega arith)
 -- and a kind's number names that kind
 pub kind-number : (k : AlphabetType) → kindOf (numberOf k) ≡ k
 unfolding kindOf
-kind-number AlphabetType.Dna2bit = refl
-kind-number AlphabetType.Dna3bit = refl
-kind-number AlphabetType.DnaIupac = refl
-kind-number AlphabetType.Protein = refl
-kind-number AlphabetType.Ascii = refl
-kind-number AlphabetType.Unknown = refl
+kind-number Dna2bit = refl
+kind-number Dna3bit = refl
+kind-number DnaIupac = refl
+kind-number Protein = refl
+kind-number Ascii = refl
+kind-number Unknown = refl
+
+-- a number that names none counts as Unknown
+pub unknown-kind : (n : ℕ) → known n ≡ false → kindOf n ≡ Unknown
+unfolding kindOf
+unknown-kind n e =
+    let past : 6 ≤ n = omega (arith, leb-false n 5 e) in
+    List·getD-eq-default kinds Unknown past
 
 -- a place in the order is the number of the alphabet there
 order-number : (n : ℕ) → n < 5 → numberOf (getD order n Unknown) ≡ n
@@ -101,20 +108,33 @@ named-refused n q e = go (known n) e
 
 -- ---- names
 
+pub record Names : Type 0 where
+  pub of-dna2bit : displayName Dna2bit ≡ bytesOf "dna2bit"
+  pub of-dna3bit : displayName Dna3bit ≡ bytesOf "dna3bit"
+  pub of-dnaIupac : displayName DnaIupac ≡ bytesOf "dnaio"
+  pub of-protein : displayName Protein ≡ bytesOf "protein"
+  pub of-ascii : displayName Ascii ≡ bytesOf "ASCII"
+  pub of-unknown : displayName Unknown ≡ bytesOf "Unknown"
+
+pub names : Names
+unfolding displayName
+names = record { of-dna2bit = refl; of-dna3bit = refl; of-dnaIupac = refl; of-protein = refl; of-ascii = refl; of-unknown = refl }
+
 -- seven bytes, of which the first `len` are the display name
 pub record Spelt (k : AlphabetType) : Type 0 where
   pub bytes : length (nameOf k .bytes) ≡ 7
   pub within : nameOf k .len ≤ 7
+  pub counted : nameOf k .len ≡ length (displayName k)
   pub front : take (nameOf k .len) (nameOf k .bytes) ≡ displayName k
 
 pub spelt : (k : AlphabetType) → Spelt k
 unfolding nameOf displayName bytesOf
-spelt AlphabetType.Dna2bit = record { bytes = refl; within = lit≤ tt; front = refl }
-spelt AlphabetType.Dna3bit = record { bytes = refl; within = lit≤ tt; front = refl }
-spelt AlphabetType.DnaIupac = record { bytes = refl; within = lit≤ tt; front = refl }
-spelt AlphabetType.Protein = record { bytes = refl; within = lit≤ tt; front = refl }
-spelt AlphabetType.Ascii = record { bytes = refl; within = lit≤ tt; front = refl }
-spelt AlphabetType.Unknown = record { bytes = refl; within = lit≤ tt; front = refl }
+spelt Dna2bit = record { bytes = refl; within = lit≤ tt; counted = refl; front = refl }
+spelt Dna3bit = record { bytes = refl; within = lit≤ tt; counted = refl; front = refl }
+spelt DnaIupac = record { bytes = refl; within = lit≤ tt; counted = refl; front = refl }
+spelt Protein = record { bytes = refl; within = lit≤ tt; counted = refl; front = refl }
+spelt Ascii = record { bytes = refl; within = lit≤ tt; counted = refl; front = refl }
+spelt Unknown = record { bytes = refl; within = lit≤ tt; counted = refl; front = refl }
 
 -- so the length of a name that was answered lies within its bytes
 pub name-within : (n : Name) (k : AlphabetType) → n ≡ nameOf k → n .len ≤ length (n .bytes)
@@ -223,6 +243,10 @@ module _ (text : List ℕ) (bytes : Bytes text) where
   pub fresh-guess : (u : Guessed) (g : AlphabetGuesser) → g ≡ after-text → u ≡ guessAt g → u ≡ Guessed.Kind (guessOf text)
   unfolding freshGuesser guessOf
   fresh-guess u g e f = f ∙ ap guessAt e ∙ guess-sound after-text (stays-sound freshGuesser text bytes fresh-sound)
+
+-- every byte of a text is a member of the guessed alphabet
+pub guess-members : (text : List ℕ) → Bytes text → (j : ℕ) → j < length text → coding (guessOf text) .member (at text j) ≡ true
+guess-members text bytes = holds-each (guessOf text) text (guess-holds text bytes)
 
 -- ---- an answer is one of its cases
 

@@ -1,5 +1,5 @@
 -- The laws of symbols and codes that the crates above cite. They open no definition of this crate: what they know of an alphabet stands here.
-use mathlib.Core.Path.{_≡_, refl, sym, ap, _∙_}
+use mathlib.Core.Path.{_≡_, refl, sym, ap, subst, _∙_}
 use mathlib.Core.Bool.{Bool, true, false, not, _||_, true≢false}
 use mathlib.Core.List.{List, map}
 use mathlib.Core.Logic.{_⊎_, inl, inr}
@@ -13,6 +13,7 @@ use Rattle.bits.proofs.Computed.{below, T-true}
 use Rattle.alphabet.specs.declared.kind.AlphabetType.{AlphabetType}
 use Rattle.alphabet.specs.declared.kind.AlphabetType.the-variants.{Dna2bit, Dna3bit, DnaIupac, Protein, Ascii, Unknown}
 use Rattle.alphabet.specs.Symbols.{bytesOf, coded, dna2bit, dna3bit, dnaIupac, protein, symbolOf, codeOf, among, found, Coding, canon, listed, plain, coding, checkSymbols}
+use Rattle.alphabet.specs.Bases.{base}
 use Rattle.alphabet.proofs.Pairs.{found-none, found-among, found-back, found-fits, among-byte, symbols-apart, codes-apart}
 
 -- ---- the check of the four lists, computed
@@ -79,6 +80,29 @@ lawful DnaIupac = listed-lawful 4 dnaIupac _ (lit< tt) (lit≤ tt) (lists-checke
 lawful Protein = listed-lawful 5 protein _ (lit< tt) (lit≤ tt) (lists-checked .of-protein)
 lawful Ascii = plain-lawful
 lawful Unknown = plain-lawful
+
+-- ---- what a coder knows of a byte depends on the symbol that the byte stands for alone
+
+-- bytes that stand for one symbol are members alike and have one code
+abbrev pub ByCanon : Coding → Type 0
+ByCanon A = (v w : ℕ) → A .canon v ≡ A .canon w → (A .member v ≡ A .member w) × (A .code v ≡ A .code w)
+
+listed-by-canon : (b : ℕ) (pairs : List (List ℕ)) (other : ℕ) → ByCanon (listed b pairs other)
+unfolding listed
+listed-by-canon b pairs other v w e = (ap (among (map symbolOf pairs)) e, ap (found symbolOf codeOf 0xff pairs) e)
+
+plain-by-canon : ByCanon plain
+unfolding plain
+plain-by-canon v w e = (ap (plain .member) e, e)
+
+pub by-canon : (k : AlphabetType) → ByCanon (coding k)
+unfolding coding
+by-canon Dna2bit = listed-by-canon 2 dna2bit _
+by-canon Dna3bit = listed-by-canon 3 dna3bit _
+by-canon DnaIupac = listed-by-canon 4 dnaIupac _
+by-canon Protein = listed-by-canon 5 protein _
+by-canon Ascii = plain-by-canon
+by-canon Unknown = plain-by-canon
 
 -- ---- the four packed alphabets, and the two plain ones
 
@@ -207,3 +231,17 @@ dna2bit-codes v m = go (eqb v (ascii "T")) refl (eqb v (ascii "C")) refl (eqb v 
     go false p false q true r g s e = let h : v ≡ ascii "A" = eqb-true v (ascii "A") r in is-a h (ap (coding Dna2bit .code) h)
     go false p false q false r true s e = let h : v ≡ ascii "G" = eqb-true v (ascii "G") s in is-g h (ap (coding Dna2bit .code) h)
     go false p false q false r false s e = absurd (true≢false (sym e))
+
+-- ---- the four bases
+
+either : {P : Type 0} (t u : Bool) → (t ≡ true → P) → (u ≡ true → P) → t || u ≡ true → P
+either true u f g e = f refl
+either false u f g e = g e
+
+-- what holds of the four holds of a base
+pub one-of-four : (P : ℕ → Type 0) → P 65 → P 67 → P 71 → P 84 → (x : ℕ) → base x ≡ true → P x
+one-of-four P a c g t x =
+    let is : (k : ℕ) → P k → eqb x k ≡ true → P x = λ k p q. subst P (sym (eqb-true x k q)) p in
+    let two : eqb x 65 || eqb x 67 ≡ true → P x = either (eqb x 65) (eqb x 67) (is 65 a) (is 67 c) in
+    let three : (eqb x 65 || eqb x 67) || eqb x 71 ≡ true → P x = either (eqb x 65 || eqb x 67) (eqb x 71) two (is 71 g) in
+    either ((eqb x 65 || eqb x 67) || eqb x 71) (eqb x 84) three (is 84 t)

@@ -4,4 +4,3 @@ pub mod Masks
 pub mod Calls
 pub mod Turns
 pub mod Runs
-pub mod Canon

@@ -10,8 +10,8 @@ use lib.Bits.{bitAnd, and-shr, and-mod, and-le-l}
 use lib.Count.{trailingZeros}
 use lib.Dec.{eqb, eqb→eq, lit<, lit≤}
 use lib.ListN.{length, getD}
-use Rattle.bits.specs.Tables.{Bytes}
-use Rattle.bits.proofs.Computed.{below}
+use Rattle.bits.specs.Tables.{at, Bytes}
+use Rattle.bits.proofs.Computed.{below, both-true}
 use Rattle.alphabet.specs.declared.kind.AlphabetType.{AlphabetType}
 use Rattle.alphabet.specs.declared.kind.AlphabetType.the-variants.{Dna2bit, Dna3bit, DnaIupac, Protein, Ascii, Unknown}
 use Rattle.alphabet.specs.Symbols.{coding}
@@ -191,3 +191,10 @@ first-holds (k ∷ ks) text i e h = go (holdsAll k text) refl i e h (λ j q l. f
 -- so the guessed alphabet holds the text
 pub guess-holds : (text : List ℕ) → Bytes text → holdsAll (guessOf text) text ≡ true
 guess-holds text bytes = rw (guess-first text bytes) (first-holds order text 4 (ascii-holds text bytes) (lit< tt))
+
+-- and has each of its bytes
+pub holds-each : (k : AlphabetType) (text : List ℕ) → holdsAll k text ≡ true → (j : ℕ) → j < length text → coding k .member (at text j) ≡ true
+unfolding holdsAll
+holds-each k [] e j h = absurd (not-suc-le-zero h)
+holds-each k (v ∷ text) e zero h = both-true (coding k .member v) (holdsAll k text) e .0
+holds-each k (v ∷ text) e (suc j) h = holds-each k text (both-true (coding k .member v) (holdsAll k text) e .1) j (le-of-suc-le-suc h)

@@ -15,8 +15,7 @@ use Rattle.bits.proofs.Tabulated.{getD-tabulate}
 use Rattle.alphabet.specs.declared.kind.AlphabetType.{AlphabetType}
 use Rattle.alphabet.specs.Symbols.{Coding, coding}
 use Rattle.alphabet.specs.Bases.{Run}
-use Rattle.alphabet.proofs.Runs.{one-of-four}
-use Rattle.alphabet.proofs.Laws.{Packed, Plain, shape}
+use Rattle.alphabet.proofs.Laws.{Packed, Plain, shape, one-of-four}
 use Rattle.packing.specs.declared.first.First.{First}
 use Rattle.packing.specs.Encode.{firstFrom}
 use Rattle.packing.specs.Run.{Passed, Searched, Usual}

@@ -15,8 +15,7 @@ use Rattle.bits.proofs.Alike.{alike-digits, digits-alike}
 use Rattle.alphabet.specs.declared.kind.AlphabetType.{AlphabetType}
 use Rattle.alphabet.specs.Symbols.{Coding, coding}
 use Rattle.alphabet.proofs.Laws as laws
-use Rattle.alphabet.proofs.Laws.{lawful, Plain, shape}
-use Rattle.alphabet.proofs.Canon.{by-canon}
+use Rattle.alphabet.proofs.Laws.{lawful, Plain, shape, by-canon}
 use Rattle.packing.specs.Encode.{digitOf, digitsOf, packing}
 use Rattle.packing.proofs.Digits.{digit-lt, at-map}
 use Rattle.record.specs.Texts.{Members, Extends}
