@@ -34,7 +34,8 @@ module _ (b : ℕ) (some : 0 < b) where
       go : Dec (k < bytesFor (length codes * b) * 8) → bitAt 8 (at (pack b codes)) k ≡ bitAt b (at codes) k
       go (yes l) =
           let inside : k / 8 < bytesFor (length codes * b) = omega arith in
-          bit-cong 8 (at (pack b codes)) (λ j. word (bitAt b (at codes)) (0 + j * 8) 8) k (getD-tabulate (bytesFor (length codes * b)) (λ j. word (bitAt b (at codes)) (0 + j * 8) 8) (k / 8) 0 inside)
+          let byte : ℕ → ℕ = λ j. word (bitAt b (at codes)) (0 + j * 8) 8 in
+          bit-cong 8 (at (pack b codes)) byte k (getD-tabulate (bytesFor (length codes * b)) byte (k / 8) 0 inside)
           ∙ cut-bits (bitAt b (at codes)) (bit-lt b (at codes)) 8 k (omega arith)
       go (no l) = bits-past 8 (pack b codes) k (omega arith) (omega (arith, length-pack b codes)) ∙ sym (bits-past b codes k some (omega arith))
 

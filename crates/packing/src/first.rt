@@ -1,9 +1,9 @@
 // The first byte of a text that is no member of an alphabet.
+use crate::words::entry;
 use crate::words::over;
 use alphabet::AlphabetType;
 use alphabet::INVALID_CODE;
 use alphabet::pass_bases;
-use bits::place;
 ghost use mathlib.Core.Path.{_≡_};
 ghost use mathlib.Core.Bool.{true};
 ghost use Prim.Native.Nat.{_+_, _≤_};
@@ -49,7 +49,7 @@ fn overlay(table: &[u8; 256], text: &[u8], i: usize) -> u8
 {
     let mut m = 0;
     for j in 0..8 {
-        m = over(m, table[place(text[i + j])]);
+        m = over(m, entry(table, text, i + j));
     }
     m
 }
@@ -60,7 +60,7 @@ fn find_from(table: &[u8; 256], text: &[u8], start: usize, end: usize) -> usize
     ensures { λ r. ⌜ Searched (now (table .entry)) (now (text .entry)) end r ⌝ }
 {
     for i in start..end {
-        if table[place(text[i])] == INVALID_CODE {
+        if entry(table, text, i) == INVALID_CODE {
             return i;
         }
     }
