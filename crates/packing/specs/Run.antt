@@ -41,6 +41,12 @@ leftOver b p a digits = word (atHand p a b digits) ((p + length digits * b) / 8 
 abbrev pub Passed : List ℕ → List ℕ → ℕ → Type 0
 Passed table text i = (j : ℕ) → j < i → at table (at text j) ≡ 0xff → ⊥
 
+-- the bytes from `start` to `end` are to be searched: those before them are passed
+pub record ToSearch (table text : List ℕ) (start end : ℕ) : Type 0 where
+  pub ordered : start ≤ end
+  pub inside : end ≤ length text
+  pub passed : Passed table text start
+
 -- r is the place of the first byte of a text's first n whose entry in a table is FF, and n where there is none
 pub record Searched (table text : List ℕ) (n r : ℕ) : Type 0 where
   pub within : r ≤ n

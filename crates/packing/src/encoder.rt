@@ -111,13 +111,17 @@ impl SequenceEncoder {
         let bits = self.bits as usize;
         let len = piece.len();
         let pending = left_over(table, b, bits, self.pending as u64, piece);
+        let left = ((bits + len * b) % 8) as u8;
+        let seen = self.seen;
+        let after = seen + len;
         let before = self.first;
+        let first = first_of(before, kind, table, seen, piece);
         SequenceEncoder {
             alphabet: kind,
-            seen: self.seen + len,
-            bits: ((bits + len * b) % 8) as u8,
-            pending: pending,
-            first: first_of(before, kind, table, self.seen, piece),
+            seen: after,
+            bits: left,
+            pending,
+            first,
         }
     }
 
@@ -153,14 +157,8 @@ impl SequenceEncoder {
             return answer;
         };
         let b = kind.bits_per_symbol();
-        pack(
-            &table,
-            b,
-            self.bits as usize,
-            self.pending as u64,
-            piece,
-            out,
-        );
+        let bits = self.bits as usize;
+        pack(&table, b, bits, self.pending as u64, piece, out);
         answer
     }
 
@@ -192,7 +190,8 @@ impl SequenceEncoder {
             return answer;
         };
         if count != 0 {
-            out[0] = pad(self.pending as u64, self.bits as usize);
+            let bits = self.bits as usize;
+            out[0] = pad(self.pending as u64, bits);
         }
         answer
     }

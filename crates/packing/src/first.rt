@@ -12,7 +12,7 @@ ghost use Rattle.bits.specs.Tables.{tabulate};
 ghost use Rattle.alphabet.specs.Symbols.{coding};
 ghost use Rattle.alphabet.specs.Questions.{limit};
 ghost use Rattle.packing.specs.Encode.{firstFrom, orFirst};
-ghost use Rattle.packing.specs.Run.{Passed, Overlaid, Searched, Usual};
+ghost use Rattle.packing.specs.Run.{ToSearch, Overlaid, Searched, Usual};
 
 // A non-member's position and byte, where there is one.
 pub enum First {
@@ -56,7 +56,7 @@ fn overlay(table: &[u8; 256], text: &[u8], i: usize) -> u8
 
 // The search from `start` to `end`, a byte at a time.
 fn find_from(table: &[u8; 256], text: &[u8], start: usize, end: usize) -> usize
-    requires { ⌜ (start ≤ end) × ((end ≤ length (now text)) × Passed (now table) (now text) start) ⌝ }
+    requires { ⌜ ToSearch (now table) (now text) start end ⌝ }
     ensures { λ r. ⌜ Searched (now (table .entry)) (now (text .entry)) end r ⌝ }
 {
     for i in start..end {
@@ -69,7 +69,7 @@ fn find_from(table: &[u8; 256], text: &[u8], start: usize, end: usize) -> usize
 
 // The same, where eight bytes without FF are passed at a test.
 fn find_by_eight(table: &[u8; 256], text: &[u8], start: usize, end: usize) -> usize
-    requires { ⌜ (start ≤ end) × ((end ≤ length (now text)) × Passed (now table) (now text) start) ⌝ }
+    requires { ⌜ ToSearch (now table) (now text) start end ⌝ }
     ensures { λ r. ⌜ Searched (now (table .entry)) (now (text .entry)) end r ⌝ }
 {
     let mut i = start;
@@ -84,7 +84,7 @@ fn find_by_eight(table: &[u8; 256], text: &[u8], start: usize, end: usize) -> us
 
 // The same, where bases are passed first, if they are members.
 fn find_in_chunk(table: &[u8; 256], usual: bool, text: &[u8], start: usize, end: usize) -> usize
-    requires { ⌜ ((start ≤ end) × ((end ≤ length (now text)) × Passed (now table) (now text) start)) × (usual ≡ true → Usual (now table)) ⌝ }
+    requires { ⌜ ToSearch (now table) (now text) start end × (usual ≡ true → Usual (now table)) ⌝ }
     ensures { λ r. ⌜ Searched (now (table .entry)) (now (text .entry)) end r ⌝ }
 {
     if usual {

@@ -27,8 +27,8 @@ product-here : (w : tie.After-bits-per-symbol) → length (start w .args .piece 
 product-here w = product-le (length (start w .args .piece .now)) (w .bits-per-symbol .result) (before w .bounded) (before w .narrow)
 
 -- where the state is made
-abbrev width : tie.After-struct-known3 → tie.After-bits-per-symbol
-width c = c .before .before .before .before
+abbrev width : tie.After-left-over → tie.After-bits-per-symbol
+width c = c .before .before .before
 
 bits-per-symbol-requires : tie.Need-bits-per-symbol-requires
 bits-per-symbol-requires c κs = search needs
@@ -42,29 +42,30 @@ cast-left-over c = search needs
 left-over-requires : tie.Need-left-over-requires
 left-over-requires c κs = before (c .before .before)
 
-add-t11 : tie.Need-add-t11
-add-t11 c = search needs
+mul-left : tie.Need-mul-left
+mul-left c = omega (arith, product-here (width c))
 
-mul-t12 : tie.Need-mul-t12
-mul-t12 c = omega (arith, product-here (width c))
+add-left : tie.Need-add-left
+add-left c = omega (arith, product-here (width c), before (width c) .few)
 
-add-t13 : tie.Need-add-t13
-add-t13 c = omega (arith, product-here (width c), before (width c) .few)
+cast-left : tie.Need-cast-left
+cast-left c = search needs
 
-cast-t15 : tie.Need-cast-t15
-cast-t15 c = search needs
+add-after : tie.Need-add-after
+add-after c = search needs
 
 first-of-requires : tie.Need-first-of-requires
 first-of-requires c κs = search needs
 
 returns : tie.Need-returns
 returns c =
-    let w = width (c .before) in
+    let l = c .before in
+    let w = width l in
     let s = start w in
     let a = s .args in
     let n : ℕ = length (a .piece .now) in
     let e = w .bits-per-symbol .ensures in
-    let left = c .before .before .left-over in
+    let left = l .left-over in
     let pending = left .ensures
     ∙ ap (λ (b : ℕ). leftOver b (a .self .bits) (a .self .pending) (looked (a .table .now) (a .piece .now))) e
     ∙ left-digits (a .self .alphabet) (a .table .now) (a .piece .now) (s .pre .0) (λ i. w .before .shared-slice-known .given i .fits) (a .self .bits) (a .self .pending) in
@@ -78,9 +79,9 @@ next-spec =
     cast-bits
     cast-left-over
     left-over-requires
-    add-t11
-    mul-t12
-    add-t13
-    cast-t15
+    mul-left
+    add-left
+    cast-left
+    add-after
     first-of-requires
     returns)

@@ -53,11 +53,11 @@ returns c =
 bits-per-symbol-requires : tie.Need-bits-per-symbol-requires
 bits-per-symbol-requires c κs = search needs
 
+cast-bits : tie.Need-cast-bits
+cast-bits c = search needs
+
 cast-pack : tie.Need-cast-pack
 cast-pack c = search needs
-
-cast-pack-2 : tie.Need-cast-pack-2
-cast-pack-2 c = search needs
 
 pack-requires : tie.Need-pack-requires
 pack-requires c κs =
@@ -94,8 +94,8 @@ update-spec =
     enum-told-2
     returns
     bits-per-symbol-requires
+    cast-bits
     cast-pack
-    cast-pack-2
     pack-requires
     same-length
     returns-2)
