@@ -7,10 +7,10 @@ use native.Mathlib.Decide.{decLt}
 use native.Mathlib.Omega.{arith}
 use lib.ListN.{length, List·getD-eq-default}
 use Rattle.bits.specs.Tables.{at}
-use Rattle.bits.specs.Streams.{bitAt, word, cut}
+use Rattle.bits.specs.Streams.{bitAt, cut}
 use Rattle.bits.specs.Packing.{bytesFor, pack}
-use Rattle.bits.proofs.Tabulated.{getD-tabulate}
-use Rattle.bits.proofs.Words.{word-ext, word-whole, bit-lt, bit-cong, cut-bits}
+use Rattle.bits.proofs.Words.{word-ext, word-whole, bit-cong}
+use Rattle.bits.proofs.Packed.{pack-within}
 use Rattle.bits.proofs.Hand.{cut-ext}
 use Rattle.bits.proofs.Appended.{length-cut}
 
@@ -28,14 +28,10 @@ length-pack b codes = length-cut 8 (bitAt b (at codes)) 0 (bytesFor (length code
 module _ (b : ℕ) (some : 0 < b) where
   -- the packing's bytes and the codes have the same bits, everywhere
   pub pack-bit : (codes : List ℕ) (k : ℕ) → bitAt 8 (at (pack b codes)) k ≡ bitAt b (at codes) k
-  unfolding pack cut
   pack-bit codes k = go (decLt k (bytesFor (length codes * b) * 8))
     where
       go : Dec (k < bytesFor (length codes * b) * 8) → bitAt 8 (at (pack b codes)) k ≡ bitAt b (at codes) k
-      go (yes l) =
-          let inside : k / 8 < bytesFor (length codes * b) = omega arith in
-          bit-cong 8 (at (pack b codes)) (λ j. word (bitAt b (at codes)) (0 + j * 8) 8) k (getD-tabulate (bytesFor (length codes * b)) (λ j. word (bitAt b (at codes)) (0 + j * 8) 8) (k / 8) 0 inside)
-          ∙ cut-bits (bitAt b (at codes)) (bit-lt b (at codes)) 8 k (omega arith)
+      go (yes l) = pack-within b codes k l
       go (no l) = bits-past 8 (pack b codes) k (omega arith) (omega (arith, length-pack b codes)) ∙ sym (bits-past b codes k some (omega arith))
 
   pub alike-digits : (xs ys : List ℕ) → pack b xs ≡ pack b ys → (i : ℕ) → at xs i % 2 ^ b ≡ at ys i % 2 ^ b

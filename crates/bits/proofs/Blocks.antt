@@ -1,5 +1,5 @@
 -- Blocks over a width: codes that begin with one byte and end with another are the fields of the number that these bytes write.
-use mathlib.Core.Path.{_≡_, sym, ap, _∙_}
+use mathlib.Core.Path.{_≡_, sym, ap, ap₂, _∙_}
 use Prim.Native.Nat.{ℕ, _+_, _-_, _*_, _/_, _%_, _^_, _<_}
 use native.Mathlib.Nat.{add-mul, one-mul, mod-eq-of-lt}
 use native.Mathlib.Omega.{arith}
@@ -11,19 +11,23 @@ use Rattle.bits.proofs.Words.{word-add, word-whole, word-high, word-low
 pub word-field : (s : ℕ → ℕ) → ((i : ℕ) → s i < 2) → (k m n r : ℕ) → word s k (m + n + r) / 2 ^ r % 2 ^ n ≡ word s (k + m) n
 word-field s bits k m n r = ap (λ (x : ℕ). x % 2 ^ n) (word-high s bits k (m + n) r) ∙ word-low s bits k m n
 
--- c codes, b bits wide, from code i on, which begins with byte j; they fill n bytes
-pub block-codes : (byte : ℕ → ℕ) (b c n i j : ℕ) → i * b ≡ j * 8 → c * b ≡ n * 8 → cut b (bitAt 8 byte) (i * b) c ≡ fields b c (word (bitAt 8 byte) (j * 8) (n * 8))
+-- digits cut from a stream are the fields of the word that they stand in
+pub cut-fields : (s : ℕ → ℕ) → ((i : ℕ) → s i < 2) → (b k c : ℕ) → cut b s k c ≡ fields b c (word s k (c * b))
 unfolding cut fields
-block-codes byte b c n i j first whole =
-    tabulate-ext c (λ t. word (bitAt 8 byte) (i * b + t * b) b) (λ t. word (bitAt 8 byte) (j * 8) (n * 8) / 2 ^ ((c - 1 - t) * b) % 2 ^ b)
+cut-fields s bits b k c =
+    tabulate-ext c (λ t. word s (k + t * b) b) (λ t. word s k (c * b) / 2 ^ ((c - 1 - t) * b) % 2 ^ b)
     (λ t h.
     let r : ℕ = c - 1 - t in
     let parts : c ≡ t + 1 + r = omega arith in
-    let bits : n * 8 ≡ t * b + b + r * b = sym whole ∙ ap (λ (x : ℕ). x * b) parts ∙ add-mul (t + 1) r b ∙ ap (λ (x : ℕ). x + r * b) (add-mul t 1 b ∙ ap (λ (x : ℕ). t * b + x) (one-mul b)) in
-    sym
-    (ap (λ (x : ℕ). word (bitAt 8 byte) (j * 8) x / 2 ^ (r * b) % 2 ^ b) bits
-    ∙ word-field (bitAt 8 byte) (bit-lt 8 byte) (j * 8) (t * b) b (r * b)
-    ∙ ap (λ (x : ℕ). word (bitAt 8 byte) (x + t * b) b) (sym first)))
+    let one : (t + 1) * b ≡ t * b + b = add-mul t 1 b ∙ ap (λ (x : ℕ). t * b + x) (one-mul b) in
+    let all : c * b ≡ t * b + b + r * b = ap (λ (x : ℕ). x * b) parts ∙ add-mul (t + 1) r b ∙ ap (λ (x : ℕ). x + r * b) one in
+    sym (ap (λ (x : ℕ). word s k x / 2 ^ (r * b) % 2 ^ b) all ∙ word-field s bits k (t * b) b (r * b)))
+
+-- c codes, b bits wide, from code i on, which begins with byte j; they fill n bytes
+pub block-codes : (byte : ℕ → ℕ) (b c n i j : ℕ) → i * b ≡ j * 8 → c * b ≡ n * 8
+    → cut b (bitAt 8 byte) (i * b) c ≡ fields b c (word (bitAt 8 byte) (j * 8) (n * 8))
+block-codes byte b c n i j first whole =
+    cut-fields (bitAt 8 byte) (bit-lt 8 byte) b (i * b) c ∙ ap₂ (λ (x y : ℕ). fields b c (word (bitAt 8 byte) x y)) first whole
 
 -- the number that bytes write, one more byte at a time
 module _ (byte : ℕ → ℕ) (small : (j : ℕ) → byte j < 256) where

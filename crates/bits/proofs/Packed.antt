@@ -11,15 +11,19 @@ use Rattle.bits.specs.Packing.{bytesFor, pack, fileByte, codesFrom}
 use Rattle.bits.proofs.Tabulated.{tabulate-ext, getD-tabulate}
 use Rattle.bits.proofs.Words.{word-ext, word-whole, bit-lt, bit-cong, cut-bits}
 
--- the packing's bytes and the codes have the same bits, up to the codes' end
-pub pack-bits : (b : ℕ) (codes : List ℕ) (k : ℕ) → k < length codes * b → bitAt 8 (at (pack b codes)) k ≡ bitAt b (at codes) k
+-- the packing's bytes and the codes have the same bits, up to the last byte's end
+pub pack-within : (b : ℕ) (codes : List ℕ) (k : ℕ) → k < bytesFor (length codes * b) * 8 → bitAt 8 (at (pack b codes)) k ≡ bitAt b (at codes) k
 unfolding pack cut
-pack-bits b codes k h =
+pack-within b codes k h =
     let s : ℕ → ℕ = bitAt b (at codes) in
     let byte : ℕ → ℕ = λ j. word s (0 + j * 8) 8 in
     let inside : k / 8 < bytesFor (length codes * b) = omega arith in
     bit-cong 8 (at (tabulate (bytesFor (length codes * b)) byte)) byte k (getD-tabulate (bytesFor (length codes * b)) byte (k / 8) 0 inside)
     ∙ cut-bits s (bit-lt b (at codes)) 8 k (omega arith)
+
+-- and so up to the codes' end
+pub pack-bits : (b : ℕ) (codes : List ℕ) (k : ℕ) → k < length codes * b → bitAt 8 (at (pack b codes)) k ≡ bitAt b (at codes) k
+pack-bits b codes k h = pack-within b codes k (omega arith)
 
 -- the round trip: a file whose bits from code s to code s + n - 1 are the packing's gives those codes
 pub codes-of-pack :

@@ -1,16 +1,14 @@
 -- The rolling accumulator: digits of b bits go in one after another, and each time eight bits are there a byte comes out.
-use mathlib.Core.Path.{_≡_, refl, sym, ap, ap₂, _∙_}
-use mathlib.Core.List.{List, _++_}
+use mathlib.Core.Path.{_≡_, sym, ap, ap₂, _∙_}
+use mathlib.Core.List.{List}
 use Prim.Native.Nat.{ℕ, suc, _+_, _-_, _*_, _/_, _%_, _^_, _≤_, _<_}
 use native.Mathlib.Nat.{zero-add, zero-mul, add-mul, one-mul, mul-le-mul-right, suc-mul, pow-le-pow-right}
-use native.Mathlib.Numerals.{add-one}
 use native.Mathlib.Omega.{arith}
 use lib.Dec.{lit<}
-use lib.ListN.{length, drop, set}
-use Rattle.bits.specs.Tables.{tabulate}
+use lib.ListN.{length, set}
 use Rattle.bits.specs.Streams.{word, cut}
 use Rattle.bits.specs.Memory.{front}
-use Rattle.bits.proofs.Tabulated.{length-tabulate, store}
+use Rattle.bits.proofs.Put.{Filled, none-filled, one-filled, put-front}
 use Rattle.bits.proofs.Words.{word-add, word-lt, word-high, word-low}
 
 -- after i digits behind p0 bits: w bytes are written, and the p bits after them write the number acc
@@ -18,13 +16,13 @@ pub record Rolled (s : ℕ → ℕ) (b p0 : ℕ) (memory : List ℕ) (i acc p w 
   pub place : p0 + i * b ≡ w * 8 + p
   pub few : p < 8
   pub held : acc ≡ word s (w * 8) p
-  pub wrote : out ≡ cut 8 s 0 w ++ drop w memory
+  pub wrote : Filled (λ j. word s (0 + j * 8) 8) 0 memory w out
 
 module _ (s : ℕ → ℕ) (bits : (i : ℕ) → s i < 2) (b p0 : ℕ) (memory : List ℕ) where
   -- before the first digit
   pub rolled-start : (acc : ℕ) → p0 < 8 → acc ≡ word s 0 p0 → Rolled s b p0 memory 0 acc p0 0 memory
-  unfolding cut tabulate
-  rolled-start acc h e = record { place = rw (zero-mul b) (omega arith); few = h; held = e; wrote = refl }
+  rolled-start acc h e =
+      record { place = rw (zero-mul b) (omega arith); few = h; held = e; wrote = none-filled (λ j. word s (0 + j * 8) 8) 0 memory }
 
   -- the accumulator is narrow
   pub rolled-lt : (i acc p w : ℕ) (out : List ℕ) → Rolled s b p0 memory i acc p w out → acc < 2 ^ p
@@ -44,7 +42,8 @@ module _ (s : ℕ → ℕ) (bits : (i : ℕ) → s i < 2) (b p0 : ℕ) (memory :
   more i = add-mul i 1 b ∙ ap (λ (x : ℕ). i * b + x) (one-mul b)
 
   -- and no byte is full
-  pub turn : (i acc p w d : ℕ) (out : List ℕ) → Rolled s b p0 memory i acc p w out → d ≡ word s (p0 + i * b) b → p + b < 8 → Rolled s b p0 memory (i + 1) (acc * 2 ^ b + d) (p + b) w out
+  pub turn : (i acc p w d : ℕ) (out : List ℕ) → Rolled s b p0 memory i acc p w out → d ≡ word s (p0 + i * b) b → p + b < 8
+      → Rolled s b p0 memory (i + 1) (acc * 2 ^ b + d) (p + b) w out
   turn i acc p w d out r e h =
       record { place = omega (arith, r .place, more i); few = h; held = pushed i acc p w d out r e; wrote = r .wrote }
 
@@ -53,9 +52,9 @@ module _ (s : ℕ → ℕ) (bits : (i : ℕ) → s i < 2) (b p0 : ℕ) (memory :
   pushed-lt i acc p w d out r e = rw (pushed i acc p w d out r e) (word-lt s bits (w * 8) (p + b))
 
   -- or a byte is full: the bits above the q that are left
-  pub turn-byte : (i acc p w d q : ℕ) (out : List ℕ) → Rolled s b p0 memory i acc p w out → d ≡ word s (p0 + i * b) b → p + b ≡ 8 + q → q < 8 → w < length memory
+  pub turn-byte : (i acc p w d q : ℕ) (out : List ℕ) → Rolled s b p0 memory i acc p w out → d ≡ word s (p0 + i * b) b
+      → p + b ≡ 8 + q → q < 8 → w < length memory
       → Rolled s b p0 memory (i + 1) ((acc * 2 ^ b + d) % 2 ^ q) q (w + 1) (set out w ((acc * 2 ^ b + d) / 2 ^ q))
-  unfolding cut
   turn-byte i acc p w d q out r e sum few h =
       let whole : acc * 2 ^ b + d ≡ word s (w * 8) (8 + q) = pushed i acc p w d out r e ∙ ap (word s (w * 8)) sum in
       let next : (w + 1) * 8 ≡ w * 8 + 8 = omega arith in
@@ -66,9 +65,8 @@ module _ (s : ℕ → ℕ) (bits : (i : ℕ) → s i < 2) (b p0 : ℕ) (memory :
         few = few;
         held = ap (λ (x : ℕ). x % 2 ^ q) whole ∙ word-low s bits (w * 8) 8 q ∙ ap (λ (k : ℕ). word s k q) (sym next);
         wrote =
-            ap (λ (l : List ℕ). set l w ((acc * 2 ^ b + d) / 2 ^ q)) (r .wrote)
-            ∙ store w (λ j. word s (0 + j * 8) 8) memory ((acc * 2 ^ b + d) / 2 ^ q) h byte
-            ∙ ap (λ (n : ℕ). cut 8 s 0 n ++ drop n memory) (sym (add-one w));
+            ap (λ (k : ℕ). set out k ((acc * 2 ^ b + d) / 2 ^ q)) (sym (zero-add w))
+            ∙ one-filled (λ j. word s (0 + j * 8) 8) 0 memory w out (r .wrote) ((acc * 2 ^ b + d) / 2 ^ q) (omega arith) byte;
       }
 
   -- there is memory for it
@@ -83,5 +81,4 @@ module _ (s : ℕ → ℕ) (bits : (i : ℕ) → s i < 2) (b p0 : ℕ) (memory :
 
   pub rolled-front : (i acc p w : ℕ) (out : List ℕ) → Rolled s b p0 memory i acc p w out → out ≡ front (cut 8 s 0 w) memory
   unfolding cut
-  rolled-front i acc p w out r =
-      r .wrote ∙ ap (λ (n : ℕ). cut 8 s 0 w ++ drop n memory) (sym (length-tabulate w (λ j. word s (0 + j * 8) 8)))
+  rolled-front i acc p w out r = r .wrote ∙ put-front (cut 8 s 0 w) memory

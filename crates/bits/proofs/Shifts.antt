@@ -1,11 +1,10 @@
 -- A word's bits by a variable count: what the functions of src/word answer for a count below 64.
 use mathlib.Core.Path.{_≡_, ap, ap₂, _∙_}
 use Prim.Native.Nat.{ℕ, _+_, _-_, _*_, _/_, _%_, _^_, _≤_, _<_}
-use native.Mathlib.Nat.{one-mul, add-zero, mod-eq-of-lt, mod-lt, mul-mod-left, pow-le-pow-right}
+use native.Mathlib.Nat.{one-mul, add-zero, mod-eq-of-lt, mod-lt, mul-mod-left, lt-of-lt-of-le}
 use native.Mathlib.Omega.{arith}
 use lib.Bits.{bitAnd, and-mask}
-use lib.Dec.{lit<}
-use lib.Pow.{pow-pos, shl-exact, shl-shr, shr-lt, mod-pow-add}
+use lib.Pow.{pow-pos, pow-mono, shl-exact, shl-shr, shr-lt, mod-pow-add}
 
 -- a bit shifted up
 pub one-shl : (n : ℕ) → n < 64 → 1 * 2 ^ n % 2 ^ 64 ≡ 2 ^ n
@@ -55,9 +54,13 @@ module _ {n : ℕ} (h : n < 64) where
   pub field-is : {b : ℕ} → b < 64 → (x : ℕ) → x / 2 ^ (n % 64) % 2 ^ (b % 64) ≡ x / 2 ^ n % 2 ^ b
   field-is l x = ap₂ (λ (m k : ℕ). x / m % 2 ^ k) power-is (mod-eq-of-lt l)
 
--- n bits write a number below 2 ^ n, and a code of at most five bits is an index into a table of 32 entries
+-- n bits write a number below 2 ^ n, and below 2 ^ m where n is at most m
 pub low-lt : (x n : ℕ) → x % 2 ^ n < 2 ^ n
 low-lt x n = mod-lt x (pow-pos n)
 
+pub low-under : (x n m : ℕ) → n ≤ m → x % 2 ^ n < 2 ^ m
+low-under x n m h = lt-of-lt-of-le (low-lt x n) (pow-mono h)
+
+-- a code of at most five bits is an index into a table of 32 entries
 pub code-lt : (x b : ℕ) → b ≤ 5 → x % 2 ^ b < 32
-code-lt x b h = omega (arith, low-lt x b, pow-le-pow-right {n = 2} (lit< tt) {i = b} {j = 5} h)
+code-lt x b h = low-under x b 5 h

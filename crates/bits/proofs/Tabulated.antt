@@ -62,7 +62,8 @@ module _ {A : Type 0} where
       go i h false e = getD-set-other (tabulate n f) k i a a (eqb-false i k e) ∙ getD-tabulate n f i a h
 
   -- a table filled from the front: one more entry
-  pub front-more : (f : ℕ → A) (d : A) (t : List A) (v : ℕ) → v < length t → ((k : ℕ) → k < v → getD t k d ≡ f k) → (k : ℕ) → k < v + 1 → getD (set t v (f v)) k d ≡ f k
+  pub front-more : (f : ℕ → A) (d : A) (t : List A) (v : ℕ) → v < length t → ((k : ℕ) → k < v → getD t k d ≡ f k)
+      → (k : ℕ) → k < v + 1 → getD (set t v (f v)) k d ≡ f k
   front-more f d t v h e =
       below-more _ _ (λ k l. getD-set-other t v k (f v) d (λ q. omega arith) ∙ e k l) (getD-set-same t v (f v) d h)
 
@@ -73,7 +74,8 @@ module _ {A : Type 0} where
   getD-within (x ∷ l) (suc i) d e h = getD-within l i d e (le-of-suc-le-suc h)
 
 -- a turn that stores entry n behind the first n
-pub store : (n : ℕ) (f : ℕ → ℕ) (out : List ℕ) (v : ℕ) → n < length out → v ≡ f n → set (tabulate n f ++ drop n out) n v ≡ tabulate (suc n) f ++ drop (suc n) out
+pub store : (n : ℕ) (f : ℕ → ℕ) (out : List ℕ) (v : ℕ) → n < length out → v ≡ f n
+    → set (tabulate n f ++ drop n out) n v ≡ tabulate (suc n) f ++ drop (suc n) out
 unfolding tabulate
 store n f out v h e =
     rw (drop-cons out n 0 h, set-at (tabulate n f) (getD out n 0) (drop (suc n) out) v n (length-tabulate n f), e)

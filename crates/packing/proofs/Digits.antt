@@ -2,7 +2,7 @@
 use mathlib.Core.Path.{_≡_, refl, sym, ap, _∙_}
 use mathlib.Core.Bool.{Bool, true, false, cond, true≢false}
 use mathlib.Core.List.{List, [], _∷_, map}
-use mathlib.Core.Logic.{_⊎_, ⊎-elim}
+use mathlib.Core.Logic.{_⊎_}
 use Prim.Native.Nat.{ℕ, zero, suc, _+_, _-_, _*_, _/_, _%_, _^_, _≤_, _<_}
 use native.Mathlib.Nat.{mod-eq-of-lt, le-of-suc-le-suc, not-suc-le-zero}
 use native.Mathlib.Omega.{arith}
@@ -11,8 +11,8 @@ use lib.Dec.{eqb, ltb, eqb→eq}
 use lib.ListN.{length, length-map, List·getD-eq-default}
 use lib.Pow.{pow-pos}
 use Rattle.bits.specs.Tables.{tabulate, at, Bytes}
-use Rattle.bits.specs.Streams.{word, after, cut}
-use Rattle.bits.specs.Packing.{atHand}
+use Rattle.bits.specs.Streams.{bitAt, word, after, cut}
+use Rattle.bits.specs.Packing.{bytesFor, pack, atHand}
 use Rattle.bits.specs.Memory.{front}
 use Rattle.bits.proofs.Tabulated.{getD-tabulate}
 use Rattle.bits.proofs.Computed.{below}
@@ -21,8 +21,8 @@ use Rattle.bits.proofs.Hand.{hand-digit, cut-ext}
 use Rattle.alphabet.specs.declared.kind.AlphabetType.{AlphabetType}
 use Rattle.alphabet.specs.Symbols.{Coding, coding}
 use Rattle.alphabet.proofs.Laws.{lawful, Packed, Plain, shape}
-use Rattle.packing.specs.Encode.{digitOf, digitsOf}
-use Rattle.packing.specs.Run.{Packs, looked}
+use Rattle.packing.specs.Encode.{digitOf, digitsOf, packing}
+use Rattle.packing.specs.Run.{ran, leftOver, looked}
 
 -- the low b bits of FF are b ones
 pub ones-low : (b : ℕ) → b ≤ 8 → 0xff % 2 ^ b ≡ 2 ^ b - 1
@@ -60,55 +60,60 @@ at-map f (x ∷ xs) zero h = refl
 at-map f (x ∷ xs) (suc i) h = at-map f xs i (le-of-suc-le-suc h)
 
 -- what the loop pushes for byte i of a text is digit i of the bits at hand
-pub looked-digit : (b p a : ℕ) (table text : List ℕ) (i v : ℕ) → i < length text → v ≡ at text i → at table v % 2 ^ b ≡ word (atHand p a b (looked table text)) (p + i * b) b
-looked-digit b p a table text i v h q =
-    ap (λ (x : ℕ). at table x % 2 ^ b) q ∙ ap (λ (x : ℕ). x % 2 ^ b) (sym (at-map (at table) text i h)) ∙ sym (hand-digit p a b (looked table text) i)
+pub looked-digit : (b p a : ℕ) (table text : List ℕ) (i : ℕ) → i < length text
+    → at table (at text i) % 2 ^ b ≡ word (atHand p a b (looked table text)) (p + i * b) b
+looked-digit b p a table text i h =
+    ap (λ (x : ℕ). x % 2 ^ b) (sym (at-map (at table) text i h)) ∙ sym (hand-digit p a b (looked table text) i)
 
 -- the digits of a text by an alphabet's encoding table have the bits of its digits by the definition
-pub looked-bits : (k : AlphabetType) (table text : List ℕ) → table ≡ tabulate 256 (coding k .code) → Bytes text → (p a i : ℕ)
-    → atHand p a (coding k .width) (looked table text) i ≡ atHand p a (coding k .width) (digitsOf (coding k) text) i
-unfolding atHand after
-looked-bits k table text t bytes p a i =
-    ap (cond (ltb i p) (a / 2 ^ (p - 1 - i) % 2)) (bit-low b (lawful k .some-bits) (at (looked table text)) (at (digitsOf A text)) (i - p) (same ((i - p) / b)))
-  where
-    A : Coding
-    A = coding k
+module _ (k : AlphabetType) (table text : List ℕ) (t : table ≡ tabulate 256 (coding k .code)) (bytes : Bytes text) where
+  abbrev A : Coding
+  A = coding k
 
-    b : ℕ
-    b = coding k .width
+  abbrev b : ℕ
+  b = coding k .width
 
-    same : (j : ℕ) → at (looked table text) j % 2 ^ b ≡ at (digitsOf A text) j % 2 ^ b
-    same j = go (decLt j (length text))
-      where
-        go : Dec (j < length text) → at (looked table text) j % 2 ^ b ≡ at (digitsOf A text) j % 2 ^ b
-        go (yes h) =
-            let entry : at table (at text j) ≡ A .code (at text j) =
-            ap (λ (l : List ℕ). at l (at text j)) t ∙ getD-tabulate 256 (A .code) (at text j) 0 (bytes j) in
-            ap (λ (x : ℕ). x % 2 ^ b) (at-map (at table) text j h ∙ entry)
-            ∙ digit-code k (at text j) (bytes j)
-            ∙ sym (mod-eq-of-lt (digit-lt k (at text j)))
-            ∙ ap (λ (x : ℕ). x % 2 ^ b) (sym (at-map (digitOf A) text j h))
-        go (no h) =
-            ap (λ (x : ℕ). x % 2 ^ b)
-            (List·getD-eq-default (looked table text) 0 {n = j} (rw (length-map text (at table)) (omega arith))
-            ∙ sym (List·getD-eq-default (digitsOf A text) 0 {n = j} (rw (length-map text (digitOf A)) (omega arith))))
+  same : (j : ℕ) → at (looked table text) j % 2 ^ coding k .width ≡ at (digitsOf (coding k) text) j % 2 ^ coding k .width
+  same j = go (decLt j (length text))
+    where
+      go : Dec (j < length text) → at (looked table text) j % 2 ^ coding k .width ≡ at (digitsOf (coding k) text) j % 2 ^ coding k .width
+      go (yes h) =
+          let entry : at table (at text j) ≡ A .code (at text j) =
+          ap (λ (l : List ℕ). at l (at text j)) t ∙ getD-tabulate 256 (A .code) (at text j) 0 (bytes j) in
+          ap (λ (x : ℕ). x % 2 ^ b) (at-map (at table) text j h ∙ entry)
+          ∙ digit-code k (at text j) (bytes j)
+          ∙ sym (mod-eq-of-lt (digit-lt k (at text j)))
+          ∙ ap (λ (x : ℕ). x % 2 ^ b) (sym (at-map (digitOf A) text j h))
+      go (no h) =
+          ap (λ (x : ℕ). x % 2 ^ b)
+          (List·getD-eq-default (looked table text) 0 {n = j} (rw (length-map text (at table)) (omega arith))
+          ∙ sym (List·getD-eq-default (digitsOf A text) 0 {n = j} (rw (length-map text (digitOf A)) (omega arith))))
 
--- so a run by the table is a run by the definition
-pub packs-digits : (k : AlphabetType) (table text : List ℕ) → table ≡ tabulate 256 (coding k .code) → Bytes text → (p a : ℕ) (memory : List ℕ) (bits pending : ℕ) (out : List ℕ)
-    → Packs (coding k .width) p a (looked table text) memory bits pending out
-    → Packs (coding k .width) p a (digitsOf (coding k) text) memory bits pending out
-packs-digits k table text t bytes p a memory bits pending out r =
-    let b : ℕ = coding k .width in
-    let len : length (looked table text) ≡ length (digitsOf (coding k) text) = length-map text (at table) ∙ sym (length-map text (digitOf (coding k))) in
-    let same : (i : ℕ) → atHand p a b (looked table text) i ≡ atHand p a b (digitsOf (coding k) text) i = looked-bits k table text t bytes p a in
-    record {
-      left = r .left ∙ ap (λ (n : ℕ). (p + n * b) % 8) len;
-      value =
-          r .value
-          ∙ ap (λ (n : ℕ). word (atHand p a b (looked table text)) ((p + n * b) / 8 * 8) ((p + n * b) % 8)) len
-          ∙ word-ext _ _ ((p + length (digitsOf (coding k) text) * b) / 8 * 8) ((p + length (digitsOf (coding k) text) * b) / 8 * 8) ((p + length (digitsOf (coding k) text) * b) % 8) (λ i h. same _);
-      wrote =
-          r .wrote
-          ∙ ap (λ (n : ℕ). front (cut 8 (atHand p a b (looked table text)) 0 ((p + n * b) / 8)) memory) len
-          ∙ ap (λ (l : List ℕ). front l memory) (cut-ext 8 _ _ 0 ((p + length (digitsOf (coding k) text) * b) / 8) same);
-    }
+  long : length (looked table text) ≡ length (digitsOf (coding k) text)
+  long = length-map text (at table) ∙ sym (length-map text (digitOf (coding k)))
+
+  bits : (i : ℕ) → bitAt (coding k .width) (at (looked table text)) i ≡ bitAt (coding k .width) (at (digitsOf (coding k) text)) i
+  bits i = bit-low b (lawful k .some-bits) (at (looked table text)) (at (digitsOf A text)) i (same (i / b))
+
+  hands : (p a i : ℕ) → atHand p a (coding k .width) (looked table text) i ≡ atHand p a (coding k .width) (digitsOf (coding k) text) i
+  unfolding atHand after
+  hands p a i = ap (cond (ltb i p) (a / 2 ^ (p - 1 - i) % 2)) (bits (i - p))
+
+  -- so a run by the table is a run by the definition
+  pub ran-digits : (p a : ℕ) (memory : List ℕ) → ran (coding k .width) p a (looked table text) memory ≡ ran (coding k .width) p a (digitsOf (coding k) text) memory
+  ran-digits p a memory =
+      ap (λ (n : ℕ). front (cut 8 (atHand p a b (looked table text)) 0 ((p + n * b) / 8)) memory) long
+      ∙ ap (λ (l : List ℕ). front l memory) (cut-ext 8 _ _ 0 ((p + length (digitsOf A text) * b) / 8) (hands p a))
+
+  pub left-digits : (p a : ℕ) → leftOver (coding k .width) p a (looked table text) ≡ leftOver (coding k .width) p a (digitsOf (coding k) text)
+  left-digits p a =
+      let n : ℕ = p + length (digitsOf A text) * b in
+      ap (λ (m : ℕ). word (atHand p a b (looked table text)) ((p + m * b) / 8 * 8) ((p + m * b) % 8)) long
+      ∙ word-ext _ _ (n / 8 * 8) (n / 8 * 8) (n % 8) (λ i h. hands p a _)
+
+  -- and so is a whole packing
+  pub pack-digits : pack (coding k .width) (looked table text) ≡ packing (coding k) text
+  unfolding pack packing
+  pack-digits =
+      ap (λ (n : ℕ). cut 8 (bitAt b (at (looked table text))) 0 (bytesFor (n * b))) long
+      ∙ cut-ext 8 _ _ 0 (bytesFor (length (digitsOf A text) * b)) bits

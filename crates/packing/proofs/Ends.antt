@@ -1,28 +1,25 @@
 -- What the public calls answer, case by case: each refusal, and the memory.
-use mathlib.Core.Path.{_≡_, refl, sym, ap, ap₂, _∙_, subst}
-use mathlib.Core.Bool.{Bool, true, false, cond, not, _&&_, true≢false}
-use mathlib.Core.List.{List, [], _∷_, _++_, map}
-use Prim.Native.Nat.{ℕ, zero, suc, _+_, _-_, _*_, _/_, _%_, _^_, _≤_, _<_}
-use native.Mathlib.Nat.{mul-le-mul, mod-lt, zero-add, zero-mul}
+use mathlib.Core.Path.{_≡_, refl, sym, ap, ap₂, _∙_}
+use mathlib.Core.Bool.{Bool, true, false, _&&_}
+use mathlib.Core.List.{List, [], _∷_}
+use Prim.Native.Nat.{ℕ, _+_, _-_, _*_, _/_, _%_, _^_, _≤_, _<_}
+use native.Mathlib.Nat.{mul-le-mul, mod-lt, zero-mul}
 use native.Mathlib.Omega.{arith}
 use borrow.Author.Tests.{le-leb, lt-leb, leb-true, lt-ltb, le-ltb, ltb-true, eq-eqb, ne-eqb, eqb-true}
 use lib.Dec.{leb, ltb, eqb, lit<}
-use lib.ListN.{length, length-map, set, drop}
-use lib.Seq.{length-front, length-take-le}
-use Rattle.bits.specs.Tables.{tabulate, at}
-use Rattle.bits.specs.Streams.{bitAt, word, cut}
-use Rattle.bits.specs.Packing.{bytesFor, pack, firstByte, endByte, atHand}
+use lib.ListN.{length, length-map, set}
+use Rattle.bits.specs.Tables.{tabulate}
+use Rattle.bits.specs.Streams.{word, cut}
+use Rattle.bits.specs.Packing.{bytesFor, atHand}
 use Rattle.bits.specs.Memory.{front}
 use Rattle.bits.proofs.Computed.{both-true}
-use Rattle.bits.proofs.Tabulated.{length-tabulate, store}
-use Rattle.bits.proofs.Words.{word-lt}
-use Rattle.bits.proofs.Hand.{hand-lt, hand-head, hand-zero, hand-plain, word-pad, cut-ext}
+use Rattle.bits.proofs.Hand.{hand-head}
 use Rattle.alphabet.specs.declared.kind.AlphabetType.{AlphabetType}
 use Rattle.alphabet.specs.declared.kind.Named.{Named}
 use Rattle.alphabet.specs.declared.refusal.Refusal.{Refusal}
 use Rattle.alphabet.specs.Questions.{ask_else_then_, by, limit, inBounds}
 use Rattle.alphabet.specs.Symbols.{Coding, coding}
-use Rattle.alphabet.specs.Names.{kindOf, namedAt}
+use Rattle.alphabet.specs.Names.{namedAt}
 use Rattle.alphabet.proofs.Laws.{lawful}
 use Rattle.alphabet.proofs.Calls.{named-kind, named-refused}
 use Rattle.packing.specs.declared.first.First.{First}
@@ -32,12 +29,13 @@ use Rattle.packing.specs.declared.encoder.Updated.{Updated}
 use Rattle.packing.specs.declared.encoder.Finalized.{Finalized}
 use Rattle.packing.specs.declared.sequence.Encoded.{Encoded}
 use Rattle.packing.specs.declared.range.Range.{Range}
-use Rattle.packing.specs.Encode.{digitOf, digitsOf, packing, firstFrom, orFirst, unlessBad, encodeAt, encodeWrites, encodeMemory, packsBy, freshEncoder, soundFirst, soundEncoder, startEncoderAt, pieceBits, pieceBitCount, updated, updateAt, updateWrites, updateMemory, finalizeRest, finalizeAt, finalizeWrites, finalizeMemory}
+use Rattle.packing.specs.Encode.{digitOf, digitsOf, packing, firstFrom, orFirst, unlessBad}
+use Rattle.packing.specs.Encode.{encodeBy, encodeAt, encodeWrites, encodeMemory, packsBy, freshEncoder, soundFirst, soundEncoder, startEncoderAt}
+use Rattle.packing.specs.Encode.{pieceBits, pieceBitCount, updated, updateAt, updateWrites, updateMemory}
+use Rattle.packing.specs.Encode.{finalizeRest, finalizeAt, finalizeWrites, finalizeMemory}
 use Rattle.packing.specs.Range.{rangeAt}
-use Rattle.packing.specs.Run.{Packs}
-
-ap₃ : {A B C D : Type 0} (f : A → B → C → D) {a a′ : A} {b b′ : B} {c c′ : C} → a ≡ a′ → b ≡ b′ → c ≡ c′ → f a b c ≡ f a′ b′ c′
-ap₃ f p q r = rw (p, q, r)
+use Rattle.packing.specs.Run.{Pends, ran, leftOver}
+use Rattle.packing.proofs.Padded.{last-byte}
 
 -- ---- byte ranges
 
@@ -101,7 +99,8 @@ module _ (s : SequenceEncoder) where
   unfolding soundEncoder
   sound-value h e l = sym (rw (le-leb (s .seen) limit h, eq-eqb (s .bits) (s .seen * packsBy s .width % 8) e, le-ltb (s .pending) (2 ^ s .bits) l))
 
-  pub sound-rest : s .seen ≤ limit → s .bits ≡ s .seen * packsBy s .width % 8 → s .pending < 2 ^ s .bits → (r : Bool) → r ≡ soundFirst (packsBy s) (s .seen) (s .first) → r ≡ soundEncoder s
+  pub sound-rest : s .seen ≤ limit → s .bits ≡ s .seen * packsBy s .width % 8 → s .pending < 2 ^ s .bits
+      → (r : Bool) → r ≡ soundFirst (packsBy s) (s .seen) (s .first) → r ≡ soundEncoder s
   unfolding soundEncoder
   sound-rest h e l r q =
       q ∙ sym (rw (le-leb (s .seen) limit h, eq-eqb (s .bits) (s .seen * packsBy s .width % 8) e, lt-ltb (s .pending) (2 ^ s .bits) l))
@@ -122,246 +121,253 @@ module _ (s : SequenceEncoder) where
   pub few-bits : Sound s → s .bits < 8
   few-bits h = rw (h .left) (mod-lt (s .seen * packsBy s .width) (lit< tt))
 
-  -- ---- `update`
+-- ---- questions
 
-  module _ (piece memory : List ℕ) where
-    pub update-unsound : soundEncoder s ≡ false → (Updated.Refused (by 1 []) s ≡ updateAt s piece (length memory)) × (memory ≡ updateMemory s piece memory)
-    unfolding updateAt updateWrites updateMemory
-    update-unsound e = (sym (rw e), sym (rw e))
+-- an answer that a "no" would not give: the answer was yes
+asked-yes : {A : Type 0} {no rest r : A} (b : Bool) → (no ≡ r → ⊥) → (ask b else no then rest) ≡ r → (b ≡ true) × (rest ≡ r)
+asked-yes true n e = (refl, e)
+asked-yes false n e = absurd (n e)
 
-    far : s .seen ≤ limit → limit - s .seen < length piece → inBounds (s .seen + length piece) ≡ false
-    far h l = lt-leb (s .seen + length piece) limit (omega arith)
+-- ---- `update`
 
-    near : s .seen ≤ limit → length piece ≤ limit - s .seen → inBounds (s .seen + length piece) ≡ true
-    near h l = le-leb (s .seen + length piece) limit (omega arith)
+module _ (s : SequenceEncoder) (piece : List ℕ) where
+  abbrev total : ℕ
+  total = s .bits + length piece * packsBy s .width
 
-    pub update-far : soundEncoder s ≡ true → limit - s .seen < length piece → (Updated.Refused (by 2 []) s ≡ updateAt s piece (length memory)) × (memory ≡ updateMemory s piece memory)
-    unfolding updateAt updateWrites updateMemory
+  module _ (room : ℕ) where
+    pub update-unsound : soundEncoder s ≡ false → Updated.Refused (by 1 []) s ≡ updateAt s piece room
+    unfolding updateAt
+    update-unsound e = sym (rw e)
+
+    pub update-far : soundEncoder s ≡ true → limit - s .seen < length piece → Updated.Refused (by 2 []) s ≡ updateAt s piece room
+    unfolding updateAt
     update-far e l =
-        let f = far (sound e .bounded) l in
-        (sym (rw (e, f)), sym (rw (e, f)))
+        let h = sound s e .bounded in
+        sym (rw (e, lt-leb (s .seen + length piece) limit (omega arith)))
 
-    pub update-short : soundEncoder s ≡ true → length piece ≤ limit - s .seen → length memory < (s .bits + length piece * packsBy s .width) / 8
-        → (Updated.Refused (by 4 []) s ≡ updateAt s piece (length memory)) × (memory ≡ updateMemory s piece memory)
-    unfolding updateAt updateWrites updateMemory pieceBitCount
-    update-short e l m =
-        let f = near (sound e .bounded) l in
-        let n = lt-leb ((s .bits + length piece * packsBy s .width) / 8) (length memory) m in
-        (sym (rw (e, f, n)), sym (rw (e, f, n)))
+    near : soundEncoder s ≡ true → length piece ≤ limit - s .seen → inBounds (s .seen + length piece) ≡ true
+    near e l = let h = sound s e .bounded in le-leb (s .seen + length piece) limit (omega arith)
 
-    pub update-fine : soundEncoder s ≡ true → length piece ≤ limit - s .seen → (s .bits + length piece * packsBy s .width) / 8 ≤ length memory
-        → (first : First) (bits pending : ℕ) (out : List ℕ) → first ≡ orFirst (s .first) (firstFrom (packsBy s) (s .seen) piece)
-        → Packs (packsBy s .width) (s .bits) (s .pending) (digitsOf (packsBy s) piece) memory bits pending out
-        → (Updated.Wrote ((s .bits + length piece * packsBy s .width) / 8) (record { alphabet = s .alphabet; seen = s .seen + length piece; bits = bits; pending = pending; first = first }) ≡ updateAt s piece (length memory))
-        × (out ≡ updateMemory s piece memory)
-    unfolding updateAt updateWrites updateMemory updated pieceBits pieceBitCount
-    update-fine e l m first bits pending out q r =
-        let f = near (sound e .bounded) l in
-        let n = le-leb ((s .bits + length piece * packsBy s .width) / 8) (length memory) m in
-        let len : length (digitsOf (packsBy s) piece) ≡ length piece = length-map piece (digitOf (packsBy s)) in
-        let A : Coding = packsBy s in
-        let hand : ℕ → ℕ = atHand (s .bits) (s .pending) (A .width) (digitsOf A piece) in
-        let left : bits ≡ (s .bits + length piece * A .width) % 8 = r .left ∙ ap (λ (x : ℕ). (s .bits + x * A .width) % 8) len in
-        let value : pending ≡ word hand ((s .bits + length piece * A .width) / 8 * 8) ((s .bits + length piece * A .width) % 8) =
-        r .value ∙ ap (λ (x : ℕ). word hand ((s .bits + x * A .width) / 8 * 8) ((s .bits + x * A .width) % 8)) len in
-        let wrote : out ≡ front (cut 8 hand 0 ((s .bits + length piece * A .width) / 8)) memory =
-        r .wrote ∙ ap (λ (x : ℕ). front (cut 8 hand 0 ((s .bits + x * A .width) / 8)) memory) len in (
-          sym (rw (e, f, n) (sym (ap₃ (λ (x y : ℕ) (z : First). Updated.Wrote ((s .bits + length piece * A .width) / 8) (record { alphabet = s .alphabet; seen = s .seen + length piece; bits = x; pending = y; first = z })) left value q))),
-          sym (rw (e, f, n) (sym wrote)),
-        )
+    pub update-short : soundEncoder s ≡ true → length piece ≤ limit - s .seen → room < (s .bits + length piece * packsBy s .width) / 8
+        → Updated.Refused (by 4 []) s ≡ updateAt s piece room
+    unfolding updateAt pieceBitCount
+    update-short e l m = sym (rw (e, near e l, lt-leb (total / 8) room m))
 
-  -- ---- `finalize`
+    pub update-fine : soundEncoder s ≡ true → length piece ≤ limit - s .seen → (s .bits + length piece * packsBy s .width) / 8 ≤ room
+        → Updated.Wrote ((s .bits + length piece * packsBy s .width) / 8) (updated s piece) ≡ updateAt s piece room
+    unfolding updateAt pieceBitCount
+    update-fine e l m = sym (rw (e, near e l, le-leb (total / 8) room m))
+
+    -- an accepted piece: what was asked, and the count
+    pub record Accepted (count : ℕ) : Type 0 where
+      pub is-sound : soundEncoder s ≡ true
+      pub bounded : s .seen + length piece ≤ limit
+      pub fits : (s .bits + length piece * packsBy s .width) / 8 ≤ room
+      pub counted : count ≡ (s .bits + length piece * packsBy s .width) / 8
+
+    pub update-accepted : (count : ℕ) (next : SequenceEncoder) → updateAt s piece room ≡ Updated.Wrote count next → Accepted count
+    unfolding updateAt pieceBitCount
+    update-accepted count next e =
+        let no : (q : Refusal) → Updated.Refused q s ≡ Updated.Wrote count next → ⊥ = λ q z. let o : _≡_ {A = ℕ} 0 1 = cc in omega arith in
+        let y₁ = asked-yes (soundEncoder s) (no (by 1 [])) e in
+        let y₂ = asked-yes (inBounds (s .seen + length piece)) (no (by 2 [])) (y₁ .1) in
+        let y₃ = asked-yes (leb (total / 8) room) (no (by 4 [])) (y₂ .1) in
+        let wrote = y₃ .1 in
+        record {
+          is-sound = y₁ .0;
+          bounded = leb-true (s .seen + length piece) limit (y₂ .0);
+          fits = leb-true (total / 8) room (y₃ .0);
+          counted = cc;
+        }
+
+  -- p bits pend in a sound state
+  pub pends : soundEncoder s ≡ true → s .seen + length piece ≤ limit → Pends (packsBy s .width) (s .bits) (s .pending) (length piece)
+  pends e l =
+      let h = sound s e in
+      record {
+        some = lawful (s .alphabet) .some-bits;
+        narrow = lawful (s .alphabet) .narrow;
+        few = few-bits s h;
+        small = h .small;
+        bounded = omega arith;
+      }
+
+  -- the next state, field by field
+  pub next-state : (bits pending : ℕ) (first : First) → bits ≡ (s .bits + length piece * packsBy s .width) % 8
+      → pending ≡ leftOver (packsBy s .width) (s .bits) (s .pending) (digitsOf (packsBy s) piece)
+      → first ≡ orFirst (s .first) (firstFrom (packsBy s) (s .seen) piece)
+      → record { alphabet = s .alphabet; seen = s .seen + length piece; bits = bits; pending = pending; first = first } ≡ updated s piece
+  unfolding updated pieceBits pieceBitCount
+  next-state bits pending first e f g =
+      let A : Coding = packsBy s in
+      let hand : ℕ → ℕ = pieceBits s piece in
+      let same : length (digitsOf A piece) ≡ length piece = length-map piece (digitOf A) in
+      let value : pending ≡ word hand (total / 8 * 8) (total % 8) =
+      f ∙ ap (λ (n : ℕ). word hand ((s .bits + n * A .width) / 8 * 8) ((s .bits + n * A .width) % 8)) same in
+      rw (e, value, g)
 
   module _ (memory : List ℕ) where
-    pub finalize-unsound : soundEncoder s ≡ false → (Finalized.Refused (by 1 []) s ≡ finalizeAt s (length memory)) × (memory ≡ finalizeMemory s memory)
-    unfolding finalizeAt finalizeWrites finalizeMemory
-    finalize-unsound e = (sym (rw e), sym (rw e))
+    pub update-kept : (q : Refusal) (next : SequenceEncoder) → updateAt s piece (length memory) ≡ Updated.Refused q next → memory ≡ updateMemory s piece memory
+    unfolding updateMemory updateWrites
+    update-kept q next e = sym (ap (λ (r : Updated). front (updateWrites s piece r) memory) e)
+
+    pub update-wrote : (count : ℕ) (next : SequenceEncoder) → updateAt s piece (length memory) ≡ Updated.Wrote count next → (out : List ℕ)
+        → out ≡ ran (packsBy s .width) (s .bits) (s .pending) (digitsOf (packsBy s) piece) memory → out ≡ updateMemory s piece memory
+    unfolding updateMemory updateWrites pieceBits
+    update-wrote count next e out w =
+        let A : Coding = packsBy s in
+        let same : (s .bits + length (digitsOf A piece) * A .width) / 8 ≡ count =
+        ap (λ (n : ℕ). (s .bits + n * A .width) / 8) (length-map piece (digitOf A)) ∙ sym (update-accepted (length memory) count next e .counted) in
+        w
+        ∙ ap (λ (n : ℕ). front (cut 8 (pieceBits s piece) 0 n) memory) same
+        ∙ sym (ap (λ (r : Updated). front (updateWrites s piece r) memory) e)
+
+-- ---- `finalize`
+
+module _ (s : SequenceEncoder) where
+  module _ (room : ℕ) where
+    pub finalize-unsound : soundEncoder s ≡ false → Finalized.Refused (by 1 []) s ≡ finalizeAt s room
+    unfolding finalizeAt
+    finalize-unsound e = sym (rw e)
+
+    -- past the first question
+    after-sound : soundEncoder s ≡ true → (f : First) → s .first ≡ f
+        → finalizeAt s room ≡ unlessBad f (λ position byte. Finalized.Refused (by 5 (position ∷ byte ∷ [])) s) (finalizeRest s room)
+    unfolding finalizeAt
+    after-sound e f q =
+        rw e (ap (λ (x : First). unlessBad x (λ position byte. Finalized.Refused (by 5 (position ∷ byte ∷ [])) s) (finalizeRest s room)) q)
 
     pub finalize-bad : soundEncoder s ≡ true → (position byte : ℕ) → s .first ≡ First.At position byte
-        → (Finalized.Refused (by 5 (position ∷ byte ∷ [])) s ≡ finalizeAt s (length memory)) × (memory ≡ finalizeMemory s memory)
-    unfolding finalizeAt finalizeWrites finalizeMemory
-    finalize-bad e position byte q =
-        let all : finalizeAt s (length memory) ≡ Finalized.Refused (by 5 (position ∷ byte ∷ [])) s =
-        ap (λ (b : Bool). ask b else Finalized.Refused (by 1 []) s then unlessBad (s .first) (λ p v. Finalized.Refused (by 5 (p ∷ v ∷ [])) s) (finalizeRest s (length memory))) e
-        ∙ ap (λ (f : First). unlessBad f (λ p v. Finalized.Refused (by 5 (p ∷ v ∷ [])) s) (finalizeRest s (length memory))) q in
-        (sym all, sym (ap (λ (r : Finalized). front (finalizeWrites s r) memory) all))
+        → Finalized.Refused (by 5 (position ∷ byte ∷ [])) s ≡ finalizeAt s room
+    finalize-bad e position byte q = sym (after-sound e (First.At position byte) q)
 
-    good : soundEncoder s ≡ true → s .first ≡ First.Nothing → finalizeAt s (length memory) ≡ finalizeRest s (length memory)
+    pub finalize-short : soundEncoder s ≡ true → s .first ≡ First.Nothing → room < bytesFor (s .bits) → Finalized.Refused (by 4 []) s ≡ finalizeAt s room
+    finalize-short e q l = sym (after-sound e First.Nothing q ∙ rw (lt-leb (bytesFor (s .bits)) room l))
+
+    pub finalize-fine : soundEncoder s ≡ true → s .first ≡ First.Nothing → bytesFor (s .bits) ≤ room → Finalized.Wrote (bytesFor (s .bits)) ≡ finalizeAt s room
+    finalize-fine e q l = sym (after-sound e First.Nothing q ∙ rw (le-leb (bytesFor (s .bits)) room l))
+
+    -- an accepted call: what was asked, and the count
+    pub record Ended (count : ℕ) : Type 0 where
+      pub is-sound : soundEncoder s ≡ true
+      pub fits : bytesFor (s .bits) ≤ room
+      pub counted : count ≡ bytesFor (s .bits)
+
+    pub finalize-accepted : (count : ℕ) → finalizeAt s room ≡ Finalized.Wrote count → Ended count
     unfolding finalizeAt
-    good e q =
-        ap (λ (b : Bool). ask b else Finalized.Refused (by 1 []) s then unlessBad (s .first) (λ p v. Finalized.Refused (by 5 (p ∷ v ∷ [])) s) (finalizeRest s (length memory))) e
-        ∙ ap (λ (f : First). unlessBad f (λ p v. Finalized.Refused (by 5 (p ∷ v ∷ [])) s) (finalizeRest s (length memory))) q
+    finalize-accepted count e =
+        let y₁ = asked-yes (soundEncoder s) (no (by 1 [])) e in
+        let y₂ = asked-yes (leb (bytesFor (s .bits)) room) (no (by 4 [])) (member (s .first) (y₁ .1)) in
+        let wrote = y₂ .1 in
+        record { is-sound = y₁ .0; fits = leb-true (bytesFor (s .bits)) room (y₂ .0); counted = cc }
+      where
+        no : (q : Refusal) → Finalized.Refused q s ≡ Finalized.Wrote count → ⊥
+        no q z = let o : _≡_ {A = ℕ} 0 1 = cc in omega arith
 
-    answered : (r : Finalized) → soundEncoder s ≡ true → s .first ≡ First.Nothing → finalizeRest s (length memory) ≡ r → (out : List ℕ) → out ≡ front (finalizeWrites s r) memory
-        → (r ≡ finalizeAt s (length memory)) × (out ≡ finalizeMemory s memory)
-    unfolding finalizeMemory
-    answered r e q rest out w =
-        let all : finalizeAt s (length memory) ≡ r = good e q ∙ rest in
-        (sym all, w ∙ sym (ap (λ (x : Finalized). front (finalizeWrites s x) memory) all))
+        member : (f : First) → unlessBad f (λ position byte. Finalized.Refused (by 5 (position ∷ byte ∷ [])) s) (finalizeRest s room) ≡ Finalized.Wrote count
+            → finalizeRest s room ≡ Finalized.Wrote count
+        member First.Nothing h = h
+        member (First.At position byte) h = absurd (no (by 5 (position ∷ byte ∷ [])) h)
 
-    -- nothing pends
-    pub finalize-none : soundEncoder s ≡ true → s .first ≡ First.Nothing → s .bits ≡ 0 → (Finalized.Wrote 0 ≡ finalizeAt s (length memory)) × (memory ≡ finalizeMemory s memory)
-    unfolding finalizeWrites cut tabulate
-    finalize-none e q z = answered (Finalized.Wrote 0) e q (rw (z, le-leb 0 (length memory) (omega arith))) memory refl
+  module _ (memory : List ℕ) where
+    pub finalize-kept : (q : Refusal) (next : SequenceEncoder) → finalizeAt s (length memory) ≡ Finalized.Refused q next → memory ≡ finalizeMemory s memory
+    unfolding finalizeMemory finalizeWrites
+    finalize-kept q next e = sym (ap (λ (r : Finalized). front (finalizeWrites s r) memory) e)
 
-    -- a byte is due
-    one : Sound s → (s .bits ≡ 0 → ⊥) → bytesFor (s .bits) ≡ 1
-    one h z = omega (arith, few-bits h)
+    module _ (count : ℕ) (answer : finalizeAt s (length memory) ≡ Finalized.Wrote count) where
+      accepted : Ended (length memory) count
+      accepted = finalize-accepted (length memory) count answer
 
-    pub finalize-short : soundEncoder s ≡ true → s .first ≡ First.Nothing → (s .bits ≡ 0 → ⊥) → length memory ≡ 0
-        → (Finalized.Refused (by 4 []) s ≡ finalizeAt s (length memory)) × (memory ≡ finalizeMemory s memory)
-    unfolding finalizeWrites
-    finalize-short e q z m =
-        answered (Finalized.Refused (by 4 []) s) e q
-        (rw (lt-leb (bytesFor (s .bits)) (length memory) (omega (arith, one (sound e) z)))) memory refl
+      -- nothing pends
+      pub finalize-none : count ≡ 0 → memory ≡ finalizeMemory s memory
+      unfolding finalizeMemory finalizeWrites cut tabulate
+      finalize-none z = sym (ap (λ (r : Finalized). front (finalizeWrites s r) memory) (answer ∙ ap Finalized.Wrote z))
 
-    pub finalize-fine : soundEncoder s ≡ true → s .first ≡ First.Nothing → (s .bits ≡ 0 → ⊥) → (length memory ≡ 0 → ⊥) → (v : ℕ) → v ≡ s .pending * 2 ^ (8 - s .bits)
-        → (Finalized.Wrote 1 ≡ finalizeAt s (length memory)) × (set memory 0 v ≡ finalizeMemory s memory)
-    unfolding finalizeWrites pieceBits cut tabulate
-    finalize-fine e q z m v w =
-        let h : Sound s = sound e in
-        let A : Coding = packsBy s in
-        let hand : ℕ → ℕ = atHand (s .bits) (s .pending) (A .width) [] in
-        let sum : 8 ≡ s .bits + (8 - s .bits) = omega (arith, few-bits h) in
-        let zeros : (i : ℕ) → i < 8 - s .bits → hand (0 + s .bits + i) ≡ 0 =
-        λ i l. hand-zero (s .bits) (s .pending) (A .width) [] (lawful (s .alphabet) .some-bits) (0 + s .bits + i) (omega (arith, zero-mul (A .width))) in
-        let byte : word hand (0 + 0 * 8) 8 ≡ v =
-        ap (word hand 0) sum ∙ word-pad hand 0 (s .bits) (8 - s .bits) zeros ∙ ap (λ (x : ℕ). x * 2 ^ (8 - s .bits)) (hand-head (s .bits) (s .pending) (A .width) [] (h .small)) ∙ sym w in
-        answered (Finalized.Wrote 1) e q (rw (one h z, le-leb 1 (length memory) (omega arith)))
-        (set memory 0 v)
-        (store 0 (λ j. word hand (0 + j * 8) 8) memory v (omega arith) (sym byte))
+      -- a byte is due
+      pub finalize-last : (count ≡ 0 → ⊥) → (0 < length memory) × ((s .bits < 8) × (s .pending < 2 ^ s .bits))
+      finalize-last z =
+          let h = sound s (accepted .is-sound) in
+          (omega (arith, accepted .counted, accepted .fits), (few-bits s h, h .small))
+
+      pub finalize-wrote : (count ≡ 0 → ⊥) → (v : ℕ) → v ≡ s .pending * 2 ^ (8 - s .bits) → set memory 0 v ≡ finalizeMemory s memory
+      unfolding finalizeMemory finalizeWrites pieceBits cut tabulate
+      finalize-wrote z v e =
+          let A : Coding = packsBy s in
+          let h = sound s (accepted .is-sound) in
+          let few : s .bits < 8 = few-bits s h in
+          let hand : ℕ → ℕ = atHand (s .bits) (s .pending) (A .width) [] in
+          let n : s .bits + 0 * A .width ≡ s .bits = omega (arith, zero-mul (A .width)) in
+          let w : (s .bits + 0 * A .width) / 8 ≡ 0 = omega (arith, n, few) in
+          let q : (s .bits + 0 * A .width) % 8 ≡ s .bits = omega (arith, n, few) in
+          let left : s .pending ≡ leftOver (A .width) (s .bits) (s .pending) [] =
+          sym (hand-head (s .bits) (s .pending) (A .width) [] (h .small)) ∙ ap₂ (λ (x y : ℕ). word hand (x * 8) y) (sym w) (sym q) in
+          let byte : v ≡ leftOver (A .width) (s .bits) (s .pending) [] * 2 ^ (8 - (s .bits + 0 * A .width) % 8) =
+          e ∙ ap₂ (λ (x y : ℕ). x * 2 ^ (8 - y)) left (sym q) in
+          let none : memory ≡ ran (A .width) (s .bits) (s .pending) [] memory = sym (ap (λ (x : ℕ). front (cut 8 hand 0 x) memory) w) in
+          let last = last-byte (A .width) (s .bits) (s .pending) (lawful (s .alphabet) .some-bits) [] memory memory v
+          (omega (arith, q, accepted .counted)) byte (omega (arith, w, finalize-last z .0)) none in
+          let all : bytesFor (s .bits + 0 * A .width) ≡ count = ap bytesFor n ∙ sym (accepted .counted) in
+          ap (λ (x : ℕ). set memory x v) (sym w)
+          ∙ last
+          ∙ ap (λ (x : ℕ). front (cut 8 hand 0 x) memory) all
+          ∙ sym (ap (λ (r : Finalized). front (finalizeWrites s r) memory) answer)
 
 -- ---- `encode_sequence`
 
+-- the questions of a text by its coding
+module _ (A : Coding) (text : List ℕ) (room : ℕ) where
+  abbrev due : ℕ
+  due = bytesFor (length text * A .width)
+
+  pub encode-long : limit < length text → Encoded.Refused (by 2 []) ≡ encodeBy A text room
+  encode-long h = sym (rw (lt-leb (length text) limit h))
+
+  pub encode-short : length text ≤ limit → room < bytesFor (length text * A .width) → Encoded.Refused (by 4 []) ≡ encodeBy A text room
+  encode-short h l = sym (rw (le-leb (length text) limit h, lt-leb due room l))
+
+  pub encode-first : length text ≤ limit → bytesFor (length text * A .width) ≤ room → (f : First) → firstFrom A 0 text ≡ f
+      → unlessBad f (λ position byte. Encoded.Refused (by 5 (position ∷ byte ∷ []))) (Encoded.Wrote (bytesFor (length text * A .width))) ≡ encodeBy A text room
+  encode-first h l f e = sym (rw (le-leb (length text) limit h, le-leb due room l, e))
+
+  -- an accepted text: what was asked
+  pub encode-accepted : (count : ℕ) → encodeBy A text room ≡ Encoded.Wrote count → (length text ≤ limit) × (bytesFor (length text * A .width) ≤ room)
+  encode-accepted count e =
+      let no : (q : Refusal) → Encoded.Refused q ≡ Encoded.Wrote count → ⊥ = λ q z. let o : _≡_ {A = ℕ} 0 1 = cc in omega arith in
+      let y₁ = asked-yes (inBounds (length text)) (no (by 2 [])) e in
+      let y₂ = asked-yes (leb due room) (no (by 4 [])) (y₁ .1) in
+      (leb-true (length text) limit (y₁ .0), leb-true due room (y₂ .0))
+
+-- and of its alphabet's number
 module _ (n : ℕ) (text memory : List ℕ) where
   pub encode-unknown : (q : Refusal) → namedAt n ≡ Named.Refused q → (Encoded.Refused (by 8 []) ≡ encodeAt n text (length memory)) × (memory ≡ encodeMemory n text memory)
   unfolding encodeAt encodeWrites encodeMemory
-  encode-unknown q e =
-      let k = named-refused n q e in
-      (sym (rw (k .0)), sym (rw (k .0)))
+  encode-unknown q e = let k = named-refused n q e in (sym (rw (k .0)), sym (rw (k .0)))
 
   module _ (k : AlphabetType) (named : namedAt n ≡ Named.Kind k) where
-    -- the questions after the first
-    abbrev asked : AlphabetType → Encoded
-    asked x =
-        ask inBounds (length text) else Encoded.Refused (by 2 []) then
-        ask leb (bytesFor (length text * coding x .width)) (length memory) else Encoded.Refused (by 4 []) then
-        unlessBad (firstFrom (coding x) 0 text) (λ position byte. Encoded.Refused (by 5 (position ∷ byte ∷ [])))
-        (Encoded.Wrote (bytesFor (length text * coding x .width)))
-
-    same : encodeAt n text (length memory) ≡ asked k
+    pub encode-known : encodeAt n text (length memory) ≡ encodeBy (coding k) text (length memory)
     unfolding encodeAt
-    same =
-        let s = named-kind n k named in
-        ap (λ (b : Bool). ask b else Encoded.Refused (by 8 []) then asked (kindOf n)) (s .0) ∙ ap asked (s .1)
+    encode-known = let s = named-kind n k named in rw (s .0) (ap (λ (x : AlphabetType). encodeBy (coding x) text (length memory)) (s .1))
 
-    answer : (r : Encoded) → asked k ≡ r → (out : List ℕ) → out ≡ front (encodeWrites n text r) memory → (r ≡ encodeAt n text (length memory)) × (out ≡ encodeMemory n text memory)
+    -- what an answer leaves in memory
+    after-answer : (r : Encoded) → encodeBy (coding k) text (length memory) ≡ r → encodeMemory n text memory ≡ front (encodeWrites n text r) memory
     unfolding encodeMemory
-    answer r e out w =
-        let all : encodeAt n text (length memory) ≡ r = same ∙ e in
-        (sym all, w ∙ sym (ap (λ (x : Encoded). front (encodeWrites n text x) memory) all))
+    after-answer r e = ap (λ (x : Encoded). front (encodeWrites n text x) memory) (encode-known ∙ e)
 
-    pub encode-long : limit < length text → (Encoded.Refused (by 2 []) ≡ encodeAt n text (length memory)) × (memory ≡ encodeMemory n text memory)
+    pub encode-kept : (q : Refusal) → encodeBy (coding k) text (length memory) ≡ Encoded.Refused q → memory ≡ encodeMemory n text memory
     unfolding encodeWrites
-    encode-long h = answer (Encoded.Refused (by 2 [])) (rw (lt-leb (length text) limit h)) memory refl
+    encode-kept q e = sym (after-answer (Encoded.Refused q) e)
 
-    pub encode-short : length text ≤ limit → length memory < bytesFor (length text * coding k .width) → (Encoded.Refused (by 4 []) ≡ encodeAt n text (length memory)) × (memory ≡ encodeMemory n text memory)
+    pub encode-wrote : (count : ℕ) → encodeBy (coding k) text (length memory) ≡ Encoded.Wrote count
+        → front (packing (coding k) text) memory ≡ encodeMemory n text memory
     unfolding encodeWrites
-    encode-short h l =
-        answer (Encoded.Refused (by 4 [])) (rw (le-leb (length text) limit h, lt-leb (bytesFor (length text * coding k .width)) (length memory) l)) memory refl
-
-    pub encode-bad : length text ≤ limit → bytesFor (length text * coding k .width) ≤ length memory → (position byte : ℕ) → firstFrom (coding k) 0 text ≡ First.At position byte
-        → (Encoded.Refused (by 5 (position ∷ byte ∷ [])) ≡ encodeAt n text (length memory)) × (memory ≡ encodeMemory n text memory)
-    unfolding encodeWrites
-    encode-bad h l position byte e =
-        answer (Encoded.Refused (by 5 (position ∷ byte ∷ [])))
-        (rw (le-leb (length text) limit h, le-leb (bytesFor (length text * coding k .width)) (length memory) l, e)) memory refl
-
-    -- the packing, by the bits at hand in a run that starts with none
-    packed : packing (coding k) text ≡ cut 8 (atHand 0 0 (coding k .width) (digitsOf (coding k) text)) 0 (bytesFor (length text * coding k .width))
-    unfolding packing pack
-    packed =
-        let D : List ℕ = digitsOf (coding k) text in
-        ap (λ (m : ℕ). cut 8 (bitAt (coding k .width) (at D)) 0 (bytesFor (m * coding k .width))) (length-map text (digitOf (coding k)))
-        ∙ cut-ext 8 (bitAt (coding k .width) (at D)) (atHand 0 0 (coding k .width) D) 0 (bytesFor (length text * coding k .width)) (λ i. sym (hand-plain 0 (coding k .width) D i))
-
-    fine : length text ≤ limit → bytesFor (length text * coding k .width) ≤ length memory → firstFrom (coding k) 0 text ≡ First.Nothing → (out : List ℕ)
-        → out ≡ front (cut 8 (atHand 0 0 (coding k .width) (digitsOf (coding k) text)) 0 (bytesFor (length text * coding k .width))) memory
-        → (Encoded.Wrote (bytesFor (length text * coding k .width)) ≡ encodeAt n text (length memory)) × (out ≡ encodeMemory n text memory)
-    unfolding encodeWrites
-    fine h l e out w =
-        let s = named-kind n k named in
-        answer (Encoded.Wrote (bytesFor (length text * coding k .width)))
-        (rw (le-leb (length text) limit h, le-leb (bytesFor (length text * coding k .width)) (length memory) l, e)) out
-        (w ∙ ap (λ (x : List ℕ). front x memory) (sym packed) ∙ ap (λ (x : AlphabetType). front (packing (coding x) text) memory) (sym (s .1)))
-
-    total : length (digitsOf (coding k) text) * coding k .width ≡ length text * coding k .width
-    total = ap (λ (m : ℕ). m * coding k .width) (length-map text (digitOf (coding k)))
-
-    -- no bits are left over
-    pub encode-whole : length text ≤ limit → bytesFor (length text * coding k .width) ≤ length memory → firstFrom (coding k) 0 text ≡ First.Nothing → (pending : ℕ) (out : List ℕ)
-        → Packs (coding k .width) 0 0 (digitsOf (coding k) text) memory 0 pending out
-        → (Encoded.Wrote (bytesFor (length text * coding k .width)) ≡ encodeAt n text (length memory)) × (out ≡ encodeMemory n text memory)
-    encode-whole h l e pending out r =
-        let count : (0 + length (digitsOf (coding k) text) * coding k .width) / 8 ≡ bytesFor (length text * coding k .width) = omega (arith, r .left, total) in
-        fine h l e out (r .wrote ∙ ap (λ (m : ℕ). front (cut 8 (atHand 0 0 (coding k .width) (digitsOf (coding k) text)) 0 m) memory) count)
-
-    -- the bits that are left over make the last byte
-    pub encode-last : length text ≤ limit → bytesFor (length text * coding k .width) ≤ length memory → firstFrom (coding k) 0 text ≡ First.Nothing → (bits pending w v : ℕ) (out : List ℕ)
-        → Packs (coding k .width) 0 0 (digitsOf (coding k) text) memory bits pending out
-        → (bits ≡ 0 → ⊥) → w ≡ length text * coding k .width / 8 → v ≡ pending * 2 ^ (8 - bits)
-        → (Encoded.Wrote (bytesFor (length text * coding k .width)) ≡ encodeAt n text (length memory)) × (set out w v ≡ encodeMemory n text memory)
-    unfolding cut
-    encode-last h l e bits pending w v out r z at-w at-v =
-        let b : ℕ = coding k .width in
-        let D : List ℕ = digitsOf (coding k) text in
-        let hand : ℕ → ℕ = atHand 0 0 b D in
-        let f : ℕ → ℕ = λ j. word hand (0 + j * 8) 8 in
-        let left : bits ≡ length text * b % 8 = r .left ∙ ap (λ (m : ℕ). m % 8) (zero-add (length D * b) ∙ total) in
-        let here : (0 + length D * b) / 8 ≡ w = ap (λ (m : ℕ). m / 8) (zero-add (length D * b) ∙ total) ∙ sym at-w in
-        let sum : 8 ≡ bits + (8 - bits) = omega (arith, left) in
-        let next : suc w ≡ bytesFor (length text * b) = omega (arith, left, at-w) in
-        let zeros : (i : ℕ) → i < 8 - bits → hand (w * 8 + bits + i) ≡ 0 =
-        λ i m. hand-zero 0 0 b D (lawful k .some-bits) (w * 8 + bits + i) (omega (arith, left, at-w, total)) in
-        let byte : v ≡ f w =
-        at-v
-        ∙ ap (λ (x : ℕ). x * 2 ^ (8 - bits)) (r .value ∙ ap₂ (λ (x y : ℕ). word hand (x * 8) y) here (sym (r .left)))
-        ∙ sym (word-pad hand (w * 8) bits (8 - bits) zeros)
-        ∙ ap (word hand (w * 8)) (sym sum)
-        ∙ ap (λ (x : ℕ). word hand x 8) (sym (zero-add (w * 8))) in
-        let before : out ≡ tabulate w f ++ drop w memory =
-        r .wrote ∙ ap (λ (m : ℕ). front (tabulate m f) memory) here ∙ ap (λ (m : ℕ). tabulate w f ++ drop m memory) (length-tabulate w f) in
-        let stored : set out w v ≡ front (tabulate (suc w) f) memory =
-        ap (λ (o : List ℕ). set o w v) before
-        ∙ store w f memory v (omega (arith, next)) byte
-        ∙ ap (λ (m : ℕ). tabulate (suc w) f ++ drop m memory) (sym (length-tabulate (suc w) f)) in
-        fine h l e (set out w v) (stored ∙ ap (λ (m : ℕ). front (tabulate m f) memory) next)
+    encode-wrote count e =
+        ap (λ (x : AlphabetType). front (packing (coding x) text) memory) (sym (named-kind n k named .1)) ∙ sym (after-answer (Encoded.Wrote count) e)
 
 -- ---- a first non-member
 
 pub sound-at-member : (A : Coding) (seen : ℕ) (first : First) (position byte : ℕ) → first ≡ First.At position byte → A .member byte ≡ true → false ≡ soundFirst A seen first
 sound-at-member A seen first position byte e m = sym (ap (soundFirst A seen) e ∙ rw m)
 
-pub sound-at-seen : (A : Coding) (seen : ℕ) (first : First) (position byte : ℕ) → first ≡ First.At position byte → A .member byte ≡ false → ltb position seen ≡ soundFirst A seen first
+pub sound-at-seen : (A : Coding) (seen : ℕ) (first : First) (position byte : ℕ) → first ≡ First.At position byte → A .member byte ≡ false
+    → ltb position seen ≡ soundFirst A seen first
 sound-at-seen A seen first position byte e m = sym (ap (soundFirst A seen) e ∙ rw m)
-
--- ---- a run's outcome
-
--- what pends is narrow
-pub packs-small : (b p a : ℕ) (digits memory : List ℕ) (bits pending : ℕ) (out : List ℕ) → Packs b p a digits memory bits pending out → (bits < 8) × (pending < 2 ^ bits)
-packs-small b p a digits memory bits pending out r =
-    let n : ℕ = p + length digits * b in (
-      omega (arith, r .left),
-      subst (λ (x : ℕ). pending < 2 ^ x) (sym (r .left)) (subst (λ (x : ℕ). x < 2 ^ (n % 8)) (sym (r .value)) (word-lt (atHand p a b digits) (hand-lt p a b digits) (n / 8 * 8) (n % 8))),
-    )
-
--- and memory keeps its length
-pub packs-length : (b p a : ℕ) (digits memory : List ℕ) (bits pending : ℕ) (out : List ℕ) → Packs b p a digits memory bits pending out → (p + length digits * b) / 8 ≤ length memory → length out ≡ length memory
-unfolding cut
-packs-length b p a digits memory bits pending out r h =
-    let w : ℕ = (p + length digits * b) / 8 in
-    let f : ℕ → ℕ = λ j. word (atHand p a b digits) (0 + j * 8) 8 in
-    let len : length (tabulate w f) ≡ w = length-tabulate w f in
-    ap length (r .wrote)
-    ∙ ap (λ (m : ℕ). length (tabulate w f ++ drop m memory)) len
-    ∙ length-front memory (tabulate w f) w (len ∙ sym (length-take-le w memory h))

@@ -1,10 +1,9 @@
 -- The packing of a text: how long it is, what its bytes are, and that Dna2bit's is UCSC's.
 use mathlib.Core.Path.{_≡_, sym, ap, _∙_, subst}
-use mathlib.Core.Bool.{Bool, true, false, cond}
-use mathlib.Core.List.{List, [], _∷_, _++_, map}
-use Prim.Native.Char.{code as ascii}
-use Prim.Native.Nat.{ℕ, zero, suc, _+_, _-_, _*_, _/_, _%_, _^_, _≤_, _<_}
-use native.Mathlib.Nat.{zero-add, mod-eq-of-lt, add-mul}
+use mathlib.Core.Bool.{Bool, true, cond}
+use mathlib.Core.List.{List}
+use Prim.Native.Nat.{ℕ, _+_, _-_, _*_, _/_, _%_, _^_, _<_}
+use native.Mathlib.Nat.{mod-eq-of-lt}
 use native.Mathlib.Decide.{decLt}
 use native.Mathlib.Omega.{arith}
 use borrow.Author.Tests.{lt-ltb, le-ltb}
@@ -15,7 +14,6 @@ use Rattle.bits.specs.Streams.{bitAt, word, cut}
 use Rattle.bits.specs.Packing.{bytesFor, pack}
 use Rattle.bits.proofs.Tabulated.{length-tabulate, getD-tabulate, tabulate-ext}
 use Rattle.bits.proofs.Words.{word-add, word-lt, word-whole, bit-lt}
-use Rattle.bits.proofs.Hand.{word-zero}
 use Rattle.alphabet.specs.declared.kind.AlphabetType.the-variants.{Dna2bit}
 use Rattle.alphabet.specs.Symbols.{Coding, coding}
 use Rattle.alphabet.proofs.Laws.{lawful, widths, Ucsc, dna2bit-codes}
@@ -62,7 +60,8 @@ module _ (text : List ℕ) (members : (i : ℕ) → i < length text → coding D
       go (yes h) =
           let v : ℕ = at text i in
           let m : coding Dna2bit .member v ≡ true = members i h in
-          let d : at (digitsOf (coding Dna2bit) text) i ≡ coding Dna2bit .code v = at-map (digitOf (coding Dna2bit)) text i h ∙ ap (λ (b : Bool). cond b (coding Dna2bit .code v) (2 ^ coding Dna2bit .width - 1)) m in
+          let d : at (digitsOf (coding Dna2bit) text) i ≡ coding Dna2bit .code v =
+          at-map (digitOf (coding Dna2bit)) text i h ∙ ap (λ (b : Bool). cond b (coding Dna2bit .code v) (2 ^ coding Dna2bit .width - 1)) m in
           let small : coding Dna2bit .code v < 2 ^ 2 = subst (λ (w : ℕ). coding Dna2bit .code v < 2 ^ w) (widths .of-dna2bit) (lawful Dna2bit .fits v m) in
           ap (λ (x : ℕ). x % 2 ^ 2) d ∙ mod-eq-of-lt small ∙ two-bits v m ∙ sym (rw (lt-ltb i (length text) h))
       go (no h) =
@@ -90,6 +89,7 @@ module _ (text : List ℕ) (members : (i : ℕ) → i < length text → coding D
   unfolding packing pack cut ucscPacked
   dna2bit-is-ucsc =
       let count : bytesFor (length (digitsOf (coding Dna2bit) text) * 2) ≡ (length text + 3) / 4 = omega (arith, length-map text (digitOf (coding Dna2bit))) in
-      ap (λ (w : ℕ). tabulate (bytesFor (length (digitsOf (coding Dna2bit) text) * w)) (λ i. word (bitAt w (at (digitsOf (coding Dna2bit) text))) (0 + i * 8) 8)) (widths .of-dna2bit)
+      let digits : List ℕ = digitsOf (coding Dna2bit) text in
+      ap (λ (w : ℕ). tabulate (bytesFor (length digits * w)) (λ i. word (bitAt w (at digits)) (0 + i * 8) 8)) (widths .of-dna2bit)
       ∙ ap (λ (n : ℕ). tabulate n (λ i. word (bitAt 2 (at (digitsOf (coding Dna2bit) text))) (0 + i * 8) 8)) count
       ∙ tabulate-ext ((length text + 3) / 4) (λ i. word (bitAt 2 (at (digitsOf (coding Dna2bit) text))) (0 + i * 8) 8) (bytePacked text) (λ j h. four j)

@@ -1,6 +1,6 @@
 -- The search for the first non-member, and what it says of a text.
-use mathlib.Core.Path.{_≡_, refl, sym, ap, ap₂, subst, _∙_}
-use mathlib.Core.Bool.{Bool, true, false, cond, not, true≢false}
+use mathlib.Core.Path.{_≡_, refl, sym, ap, subst, _∙_}
+use mathlib.Core.Bool.{true, false, not}
 use mathlib.Core.List.{List, [], _∷_}
 use mathlib.Core.Logic.{_⊎_}
 use Prim.Native.Nat.{ℕ, zero, suc, _+_, _-_, _≤_, _<_}
@@ -8,7 +8,6 @@ use native.Mathlib.Nat.{add-zero, add-suc, suc-add, le-of-suc-le-suc, not-suc-le
 use native.Mathlib.Decide.{decLt}
 use native.Mathlib.Omega.{arith}
 use borrow.Author.Tests.{eq-eqb, ne-eqb}
-use lib.Dec.{eqb}
 use lib.ListN.{length}
 use Rattle.bits.specs.Tables.{tabulate, at, Bytes}
 use Rattle.bits.proofs.Tabulated.{getD-tabulate}
@@ -48,7 +47,8 @@ module _ (A : Coding) where
   first-none from (x ∷ text) h = rw (h 0 (omega arith)) (first-none (suc from) text (λ j l. h (suc j) (omega arith)))
 
   -- the bytes before r are members, and the one at r is none
-  pub first-at : (from : ℕ) (text : List ℕ) (r : ℕ) → r < length text → ((j : ℕ) → j < r → A .member (at text j) ≡ true) → A .member (at text r) ≡ false → firstFrom A from text ≡ First.At (from + r) (at text r)
+  pub first-at : (from : ℕ) (text : List ℕ) (r : ℕ) → r < length text → ((j : ℕ) → j < r → A .member (at text j) ≡ true)
+      → A .member (at text r) ≡ false → firstFrom A from text ≡ First.At (from + r) (at text r)
   unfolding firstFrom
   first-at from [] r l h m = absurd (not-suc-le-zero l)
   first-at from (x ∷ text) zero l h m = rw (m, add-zero from)

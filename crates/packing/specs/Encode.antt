@@ -49,14 +49,16 @@ unlessBad (First.At position byte) bad rest = bad position byte
 
 -- ---- `encode_sequence`
 
--- asked: alphabet number, length, memory for the packing, every byte a member
-unfoldable pub encodeAt : ℕ → List ℕ → ℕ → Encoded
-encodeAt alphabet text room =
-    ask known alphabet else Encoded.Refused (by 8 []) then
+-- asked of a text by its coding: length, memory for the packing, every byte a member
+abbrev pub encodeBy : Coding → List ℕ → ℕ → Encoded
+encodeBy A text room =
     ask inBounds (length text) else Encoded.Refused (by 2 []) then
-    ask leb (bytesFor (length text * numbered alphabet .width)) room else Encoded.Refused (by 4 []) then
-    unlessBad (firstFrom (numbered alphabet) 0 text) (λ position byte. Encoded.Refused (by 5 (position ∷ byte ∷ [])))
-    (Encoded.Wrote (bytesFor (length text * numbered alphabet .width)))
+    ask leb (bytesFor (length text * A .width)) room else Encoded.Refused (by 4 []) then
+    unlessBad (firstFrom A 0 text) (λ position byte. Encoded.Refused (by 5 (position ∷ byte ∷ []))) (Encoded.Wrote (bytesFor (length text * A .width)))
+
+-- and before it: alphabet number
+unfoldable pub encodeAt : ℕ → List ℕ → ℕ → Encoded
+encodeAt alphabet text room = ask known alphabet else Encoded.Refused (by 8 []) then encodeBy (numbered alphabet) text room
 
 -- the bytes that an answer writes: the whole packing
 unfoldable pub encodeWrites : ℕ → List ℕ → Encoded → List ℕ

@@ -1,19 +1,24 @@
 // A text packed piece by piece.
-use crate::LIMIT;
 use crate::first::First;
 use crate::first::first_of;
+use crate::run::left_over;
 use crate::run::pack;
 use crate::words::pad;
-use crate::words::power;
 use alphabet::AlphabetType;
 use alphabet::Named;
 use alphabet::Refusal;
 use alphabet::contains;
 use alphabet::encoding_array;
 use alphabet::kind_of_number;
+use bits::LIMIT;
+use bits::power;
 ghost use mathlib.Core.Path.{_≡_};
+ghost use mathlib.Core.Bool.{true};
+ghost use Prim.Native.Nat.{_+_, _≤_};
 ghost use lib.ListN.{length};
-ghost use Rattle.packing.specs.Encode.{soundFirst, soundEncoder, startEncoderAt, updateAt, updateMemory, finalizeAt, finalizeMemory};
+ghost use Rattle.bits.specs.Tables.{tabulate};
+ghost use Rattle.alphabet.specs.Questions.{limit};
+ghost use Rattle.packing.specs.Encode.{packsBy, soundFirst, soundEncoder, startEncoderAt, updated, updateAt, updateMemory, finalizeAt, finalizeMemory};
 ghost use Rattle.alphabet.specs.Symbols.{coding};
 
 // The state between pieces: `seen` symbols so far, of which `bits` bits, of value `pending`, fill no byte yet.
@@ -89,53 +94,77 @@ impl SequenceEncoder {
         if bits != seen * kind.bits_per_symbol() % 8 {
             return false;
         }
-        if power(bits) <= self.pending as usize {
+        if power(bits) <= self.pending as u64 {
             return false;
         }
         is_sound_first(kind, seen, first)
     }
 
-    // Packs a piece behind what pends, and writes the bytes that it completes at the front of `out`. A non-member counts as a symbol of b ones, and packing
-    // goes on; the first one's position, over all accepted pieces, is kept for `finalize`.
-    pub fn update(self, piece: &[u8], out: &mut [u8]) -> Updated
-        ensures { λ r. ⌜ r ≡ updateAt self (now (piece .entry)) (length (now (out .entry))) ⌝ }
-        ensures memory { λ _. ⌜ now (out .exit) ≡ updateMemory self (now (piece .entry)) (now (out .entry)) ⌝ }
+    // The state after an accepted piece. A non-member counts as a symbol of b ones, and packing goes on; the first one's position, over all accepted pieces, is
+    // kept for `finalize`.
+    fn next(self, table: &[u8; 256], piece: &[u8]) -> SequenceEncoder
+        requires { ⌜ (now table ≡ tabulate 256 (packsBy self .code)) × ((soundEncoder self ≡ true) × (self .seen + length (now piece) ≤ limit)) ⌝ }
+        ensures { λ r. ⌜ r ≡ updated self (now (piece .entry)) ⌝ }
+    {
+        let kind = self.alphabet;
+        let b = kind.bits_per_symbol();
+        let bits = self.bits as usize;
+        let len = piece.len();
+        let pending = left_over(table, b, bits, self.pending as u64, piece);
+        let left = ((bits + len * b) % 8) as u8;
+        let seen = self.seen;
+        let after = seen + len;
+        let before = self.first;
+        let first = first_of(before, kind, table, seen, piece);
+        SequenceEncoder {
+            alphabet: kind,
+            seen: after,
+            bits: left,
+            pending,
+            first,
+        }
+    }
+
+    // The answer to a piece and memory of `room` bytes: the questions in their order, and nothing written. The table is the alphabet's.
+    fn asked(self, table: &[u8; 256], piece: &[u8], room: usize) -> Updated
+        requires { ⌜ now table ≡ tabulate 256 (packsBy self .code) ⌝ }
+        ensures { λ r. ⌜ r ≡ updateAt self (now (piece .entry)) room ⌝ }
     {
         if !self.is_sound() {
             return Updated::Refused(Refusal::Unsound, self);
         }
-        let seen = self.seen;
         let len = piece.len();
-        if LIMIT - seen < len {
+        if LIMIT - self.seen < len {
             return Updated::Refused(Refusal::TooFar, self);
         }
         let kind = self.alphabet;
-        let b = kind.bits_per_symbol();
-        let bits = self.bits as usize;
-        let count = (bits + len * b) / 8;
-        if out.len() < count {
+        let count = (self.bits as usize + len * kind.bits_per_symbol()) / 8;
+        if room < count {
             return Updated::Refused(Refusal::ShortMemory, self);
         }
-        let table = encoding_array(kind);
-        let before = self.first;
-        let first = first_of(before, kind, &table, seen, piece);
-        let tail = pack(&table, b, bits, self.pending as u64, piece, out);
-        Updated::Wrote(
-            count,
-            SequenceEncoder {
-                alphabet: kind,
-                seen: seen + len,
-                bits: tail.bits,
-                pending: tail.pending,
-                first,
-            },
-        )
+        Updated::Wrote(count, self.next(table, piece))
     }
 
-    // Writes the last byte, where bits pend, at the front of `out`; refused where a byte was no member.
-    pub fn finalize(self, out: &mut [u8]) -> Finalized
-        ensures { λ r. ⌜ r ≡ finalizeAt self (length (now (out .entry))) ⌝ }
-        ensures memory { λ _. ⌜ now (out .exit) ≡ finalizeMemory self (now (out .entry)) ⌝ }
+    // Packs a piece behind what pends, and writes the bytes that it completes at the front of `out`.
+    pub fn update(self, piece: &[u8], out: &mut [u8]) -> Updated
+        ensures { λ r. ⌜ r ≡ updateAt self (now (piece .entry)) (length (now (out .entry))) ⌝ }
+        ensures memory { λ _. ⌜ now (out .exit) ≡ updateMemory self (now (piece .entry)) (now (out .entry)) ⌝ }
+    {
+        let kind = self.alphabet;
+        let table = encoding_array(kind);
+        let answer = self.asked(&table, piece, out.len());
+        let Updated::Wrote(_, _) = answer else {
+            return answer;
+        };
+        let b = kind.bits_per_symbol();
+        let bits = self.bits as usize;
+        pack(&table, b, bits, self.pending as u64, piece, out);
+        answer
+    }
+
+    // The answer to the end of the text and memory of `room` bytes; nothing is written.
+    fn asked_last(self, room: usize) -> Finalized
+        ensures { λ r. ⌜ r ≡ finalizeAt self room ⌝ }
     {
         if !self.is_sound() {
             return Finalized::Refused(Refusal::Unsound, self);
@@ -144,14 +173,26 @@ impl SequenceEncoder {
         if let First::At { position, byte } = first {
             return Finalized::Refused(Refusal::NonMember { position, byte }, self);
         }
-        let bits = self.bits as usize;
-        if bits == 0 {
-            return Finalized::Wrote(0);
-        }
-        if out.len() == 0 {
+        let count = (self.bits as usize + 7) / 8;
+        if room < count {
             return Finalized::Refused(Refusal::ShortMemory, self);
         }
-        out[0] = pad(self.pending as u64, bits);
-        Finalized::Wrote(1)
+        Finalized::Wrote(count)
+    }
+
+    // Writes the last byte, where bits pend, at the front of `out`; refused where a byte was no member.
+    pub fn finalize(self, out: &mut [u8]) -> Finalized
+        ensures { λ r. ⌜ r ≡ finalizeAt self (length (now (out .entry))) ⌝ }
+        ensures memory { λ _. ⌜ now (out .exit) ≡ finalizeMemory self (now (out .entry)) ⌝ }
+    {
+        let answer = self.asked_last(out.len());
+        let Finalized::Wrote(count) = answer else {
+            return answer;
+        };
+        if count != 0 {
+            let bits = self.bits as usize;
+            out[0] = pad(self.pending as u64, bits);
+        }
+        answer
     }
 }

@@ -1,9 +1,9 @@
 // The first byte of a text that is no member of an alphabet.
+use crate::words::entry;
 use crate::words::over;
 use alphabet::AlphabetType;
 use alphabet::INVALID_CODE;
 use alphabet::pass_bases;
-use bits::place;
 ghost use mathlib.Core.Path.{_≡_};
 ghost use mathlib.Core.Bool.{true};
 ghost use Prim.Native.Nat.{_+_, _≤_};
@@ -12,7 +12,7 @@ ghost use Rattle.bits.specs.Tables.{tabulate};
 ghost use Rattle.alphabet.specs.Symbols.{coding};
 ghost use Rattle.alphabet.specs.Questions.{limit};
 ghost use Rattle.packing.specs.Encode.{firstFrom, orFirst};
-ghost use Rattle.packing.specs.Run.{Passed, Overlaid, Searched, Usual};
+ghost use Rattle.packing.specs.Run.{ToSearch, Overlaid, Searched, Usual};
 
 // A non-member's position and byte, where there is one.
 pub enum First {
@@ -49,18 +49,18 @@ fn overlay(table: &[u8; 256], text: &[u8], i: usize) -> u8
 {
     let mut m = 0;
     for j in 0..8 {
-        m = over(m, table[place(text[i + j])]);
+        m = over(m, entry(table, text, i + j));
     }
     m
 }
 
 // The search from `start` to `end`, a byte at a time.
 fn find_from(table: &[u8; 256], text: &[u8], start: usize, end: usize) -> usize
-    requires { ⌜ (start ≤ end) × ((end ≤ length (now text)) × Passed (now table) (now text) start) ⌝ }
+    requires { ⌜ ToSearch (now table) (now text) start end ⌝ }
     ensures { λ r. ⌜ Searched (now (table .entry)) (now (text .entry)) end r ⌝ }
 {
     for i in start..end {
-        if table[place(text[i])] == INVALID_CODE {
+        if entry(table, text, i) == INVALID_CODE {
             return i;
         }
     }
@@ -69,7 +69,7 @@ fn find_from(table: &[u8; 256], text: &[u8], start: usize, end: usize) -> usize
 
 // The same, where eight bytes without FF are passed at a test.
 fn find_by_eight(table: &[u8; 256], text: &[u8], start: usize, end: usize) -> usize
-    requires { ⌜ (start ≤ end) × ((end ≤ length (now text)) × Passed (now table) (now text) start) ⌝ }
+    requires { ⌜ ToSearch (now table) (now text) start end ⌝ }
     ensures { λ r. ⌜ Searched (now (table .entry)) (now (text .entry)) end r ⌝ }
 {
     let mut i = start;
@@ -84,7 +84,7 @@ fn find_by_eight(table: &[u8; 256], text: &[u8], start: usize, end: usize) -> us
 
 // The same, where bases are passed first, if they are members.
 fn find_in_chunk(table: &[u8; 256], usual: bool, text: &[u8], start: usize, end: usize) -> usize
-    requires { ⌜ ((start ≤ end) × ((end ≤ length (now text)) × Passed (now table) (now text) start)) × (usual ≡ true → Usual (now table)) ⌝ }
+    requires { ⌜ ToSearch (now table) (now text) start end × (usual ≡ true → Usual (now table)) ⌝ }
     ensures { λ r. ⌜ Searched (now (table .entry)) (now (text .entry)) end r ⌝ }
 {
     if usual {

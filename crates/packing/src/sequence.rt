@@ -1,22 +1,61 @@
 // A whole text packed in one call.
-use crate::LIMIT;
 use crate::first::First;
 use crate::first::first_from;
-use crate::run::pack;
+use crate::run;
+use crate::run::left_over;
 use crate::words::pad;
 use alphabet::AlphabetType;
 use alphabet::Named;
 use alphabet::Refusal;
 use alphabet::encoding_array;
 use alphabet::kind_of_number;
+use bits::LIMIT;
 ghost use mathlib.Core.Path.{_≡_};
+ghost use Prim.Native.Nat.{_*_, _≤_};
 ghost use lib.ListN.{length};
-ghost use Rattle.packing.specs.Encode.{encodeAt, encodeMemory};
+ghost use Rattle.bits.specs.Tables.{tabulate};
+ghost use Rattle.bits.specs.Packing.{bytesFor, pack};
+ghost use Rattle.bits.specs.Memory.{front};
+ghost use Rattle.alphabet.specs.Symbols.{coding};
+ghost use Rattle.packing.specs.Encode.{encodeBy, encodeAt, encodeMemory};
+ghost use Rattle.packing.specs.Run.{Pends, looked};
 
 // What `encode_sequence` answers: the bytes written.
 pub enum Encoded {
     Wrote(usize),
     Refused(Refusal),
+}
+
+// The answer to a text and memory of `room` bytes: the questions in their order, and nothing written. The table is the alphabet's.
+fn asked(kind: AlphabetType, table: &[u8; 256], text: &[u8], room: usize) -> Encoded
+    requires { ⌜ now table ≡ tabulate 256 (coding kind .code) ⌝ }
+    ensures { λ r. ⌜ r ≡ encodeBy (coding kind) (now (text .entry)) room ⌝ }
+{
+    let len = text.len();
+    if LIMIT < len {
+        return Encoded::Refused(Refusal::TooFar);
+    }
+    let count = (len * kind.bits_per_symbol() + 7) / 8;
+    if room < count {
+        return Encoded::Refused(Refusal::ShortMemory);
+    }
+    if let First::At { position, byte } = first_from(kind, table, 0, text) {
+        return Encoded::Refused(Refusal::NonMember { position, byte });
+    }
+    Encoded::Wrote(count)
+}
+
+// Writes the packing of a text's entries in a table, b bits each, its last byte included.
+fn write_packing(table: &[u8; 256], b: usize, text: &[u8], out: &mut [u8])
+    requires { ⌜ Pends b 0 0 (length (now text)) × (bytesFor (length (now text) * b) ≤ length (now out)) ⌝ }
+    ensures { λ _. ⌜ now (out .exit) ≡ front (pack b (looked (now (table .entry)) (now (text .entry)))) (now (out .entry)) ⌝ }
+{
+    run::pack(table, b, 0, 0, text, out);
+    let total = text.len() * b;
+    if total % 8 != 0 {
+        let last = left_over(table, b, 0, 0, text);
+        out[total / 8] = pad(last as u64, total % 8);
+    }
 }
 
 // The packing of a text, whole. A non-member is found before the first byte is stored.
@@ -28,23 +67,11 @@ pub fn encode_sequence(alphabet: u64, text: &[u8], out: &mut [u8]) -> Encoded
     let Named::Kind(kind) = named else {
         return Encoded::Refused(Refusal::NoAlphabet);
     };
-    let len = text.len();
-    if LIMIT < len {
-        return Encoded::Refused(Refusal::TooFar);
-    }
-    let b = kind.bits_per_symbol();
-    let count = (len * b + 7) / 8;
-    if out.len() < count {
-        return Encoded::Refused(Refusal::ShortMemory);
-    }
     let table = encoding_array(kind);
-    if let First::At { position, byte } = first_from(kind, &table, 0, text) {
-        return Encoded::Refused(Refusal::NonMember { position, byte });
-    }
-    let tail = pack(&table, b, 0, 0, text, out);
-    if tail.bits != 0 {
-        let w = len * b / 8;
-        out[w] = pad(tail.pending as u64, tail.bits as usize);
-    }
-    Encoded::Wrote(count)
+    let answer = asked(kind, &table, text, out.len());
+    let Encoded::Wrote(_) = answer else {
+        return answer;
+    };
+    write_packing(&table, kind.bits_per_symbol(), text, out);
+    answer
 }

@@ -11,7 +11,9 @@ find-by-eight-requires c κs =
     let s = c .before .before .before in
     let a = s .args in
     let p = c .pass-bases .ensures in
-    (p .until (s .pre .0 .0), (s .pre .0 .1 .0, passed-bases (a .table .now) (a .text .now) (a .start) (a .end) (c .pass-bases .result) (s .pre .1 (c .before .if1 .taken)) (s .pre .0 .1 .1) p))
+    let usual = s .pre .1 (c .before .if1 .taken) in
+    let bases = passed-bases (a .table .now) (a .text .now) (a .start) (a .end) (c .pass-bases .result) usual (s .pre .0 .passed) p in
+    record { ordered = p .until (s .pre .0 .ordered); inside = s .pre .0 .inside; passed = bases }
 
 returns : tie.Need-returns
 returns c = search needs

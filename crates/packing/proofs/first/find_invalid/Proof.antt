@@ -28,7 +28,9 @@ add-end : tie.Need-add-end Inv-loop μ-loop
 add-end c = search needs
 
 find-in-chunk-requires : tie.Need-find-in-chunk-requires Inv-loop μ-loop
-find-in-chunk-requires c κs = let o = c .before .loop in ((omega arith, (omega (arith, c .loop-test .taken, o .inv .0, o .inv .2), o .inv .3)), o .inv .1)
+find-in-chunk-requires c κs =
+    let o = c .before .loop in
+    (record { ordered = omega arith; inside = omega (arith, c .loop-test .taken, o .inv .0, o .inv .2); passed = o .inv .3 }, o .inv .1)
 
 returns : tie.Need-returns Inv-loop μ-loop
 returns c =
@@ -46,7 +48,9 @@ loop-again c =
     (o .inv .0, o .inv .1, omega (arith, c .before .before .loop-test .taken, o .inv .2), λ j h. f .ensures .passed j (omega (arith, c .if1 .left)))
 
 find-in-chunk-requires-2 : tie.Need-find-in-chunk-requires-2 Inv-loop μ-loop
-find-in-chunk-requires-2 c κs = let o = c .before .loop in ((o .inv .2, (omega (arith, o .inv .0), o .inv .3)), o .inv .1)
+find-in-chunk-requires-2 c κs =
+    let o = c .before .loop in
+    (record { ordered = o .inv .2; inside = omega (arith, o .inv .0); passed = o .inv .3 }, o .inv .1)
 
 returns-2 : tie.Need-returns-2 Inv-loop μ-loop
 returns-2 c =

@@ -2,13 +2,21 @@ use mathlib.Core.Path.{subst}
 use Prim.Native.Nat.{ℕ, _≤_, _<_}
 use native.Mathlib.Omega.{arith}
 use borrow.Author.Needs.{needs}
+use Rattle.bits.specs.Tables.{Bytes}
 use Rattle.alphabet.specs.Symbols.{coding}
 use Rattle.packing.proofs.Search.{found-at, found-none, plain-none}
 use Rattle.packing.proofs.first.first_from.Statement.{statement}
 use Rattle.packing.proofs.first.first_from.Tie as tie
 
+-- the entry, and the text's bytes
+abbrev start : tie.After-bits-per-symbol → tie.Start
+start w = w .before .before
+
+bytes : (w : tie.After-bits-per-symbol) → Bytes (start w .args .text .now)
+bytes w i = w .before .shared-slice-known .given i .fits
+
 -- past the question the alphabet is bit-packed
-narrow : (c : tie.Else1) → coding (c .before .before .before .args .kind) .width < 8
+narrow : (c : tie.Else1) → coding (start (c .before) .args .kind) .width < 8
 narrow c = subst (λ (w : ℕ). w < 8) (c .before .bits-per-symbol .ensures) (c .if1 .left)
 
 bits-per-symbol-requires : tie.Need-bits-per-symbol-requires
@@ -16,27 +24,38 @@ bits-per-symbol-requires c κs = search needs
 
 returns : tie.Need-returns
 returns c =
-    let a = c .before .before .before .args in
-    plain-none (a .kind) (a .table .now) (a .text .now) (c .before .before .before .pre .0) (λ i. c .before .before .shared-slice-known .given i .fits) (a .from) (subst (λ (w : ℕ). 8 ≤ w) (c .before .bits-per-symbol .ensures) (c .if1 .taken))
+    let w = c .before in
+    let s = start w in
+    let a = s .args in
+    let wide = subst (λ (n : ℕ). 8 ≤ n) (w .bits-per-symbol .ensures) (c .if1 .taken) in
+    plain-none (a .kind) (a .table .now) (a .text .now) (s .pre .0) (bytes w) (a .from) wide
 
 find-invalid-requires : tie.Need-find-invalid-requires
 find-invalid-requires c κs = search needs
 
 add-t8 : tie.Need-add-t8
-add-t8 c = omega (arith, c .before .before .before .before .before .pre .1)
+add-t8 c = omega (arith, start (c .before .before .before) .pre .1)
 
 shared-slice-read-t10 : tie.Need-shared-slice-read-t10
 shared-slice-read-t10 c = search needs
 
 returns-2 : tie.Need-returns-2
 returns-2 c =
-    let a = c .before .before .before .before .before .before .args in
-    found-at (a .kind) (a .table .now) (a .text .now) (c .before .before .before .before .before .before .pre .0) (λ i. c .before .before .before .before .before .shared-slice-known .given i .fits) (a .from) (c .before .before .find-invalid .result) (narrow (c .before .before .before)) (c .before .before .find-invalid .ensures) (c .before .if2 .taken)
+    let f = c .before .before in
+    let e = f .before in
+    let s = start (e .before) in
+    let a = s .args in
+    found-at (a .kind) (a .table .now) (a .text .now) (s .pre .0) (bytes (e .before)) (a .from) (f .find-invalid .result) (narrow e) (f .find-invalid .ensures)
+    (c .before .if2 .taken)
 
 returns-3 : tie.Need-returns-3
 returns-3 c =
-    let a = c .before .before .before .before .before .args in
-    found-none (a .kind) (a .table .now) (a .text .now) (c .before .before .before .before .before .pre .0) (λ i. c .before .before .before .before .shared-slice-known .given i .fits) (a .from) (c .before .find-invalid .result) (narrow (c .before .before)) (c .before .find-invalid .ensures) (c .if2 .left)
+    let f = c .before in
+    let e = f .before in
+    let s = start (e .before) in
+    let a = s .args in
+    found-none (a .kind) (a .table .now) (a .text .now) (s .pre .0) (bytes (e .before)) (a .from) (f .find-invalid .result) (narrow e) (f .find-invalid .ensures)
+    (c .if2 .left)
 
 pub first-from-spec : {M : Type 1} → statement M
 first-from-spec =

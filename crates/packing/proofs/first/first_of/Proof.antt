@@ -10,7 +10,9 @@ enum-known-before : tie.Need-enum-known-before
 enum-known-before c = search needs
 
 returns : tie.Need-returns
-returns c = sym (ap (λ (f : First). orFirst f (firstFrom (coding (c .before .before .before .before .args .kind)) (c .before .before .before .before .args .from) (c .before .before .before .before .args .text .now))) (c .before .before2 .given .1))
+returns c =
+    let a = c .before .before .before .before .args in
+    sym (ap (λ (f : First). orFirst f (firstFrom (coding (a .kind)) (a .from) (a .text .now))) (c .before .before2 .given .1))
 
 enum-told : tie.Need-enum-told
 enum-told c = search needs
