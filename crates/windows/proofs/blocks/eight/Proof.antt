@@ -121,7 +121,8 @@ returns c =
     let s = f₁ .before .before in
     let a = s .args in
     block-stored (coding Dna3bit) (a .table .now) 3 8 (a .w) (s .pre .0) (widths .of-dna3bit)
-    (f₁ .field .result ∷ f₂ .field2 .result ∷ f₃ .field3 .result ∷ f₄ .field4 .result ∷ f₅ .field5 .result ∷ f₆ .field6 .result ∷ f₇ .field7 .result ∷ f₈ .field8 .result ∷ [])
+    (f₁ .field .result ∷ f₂ .field2 .result ∷ f₃ .field3 .result ∷ f₄ .field4 .result
+    ∷ f₅ .field5 .result ∷ f₆ .field6 .result ∷ f₇ .field7 .result ∷ f₈ .field8 .result ∷ [])
     (a .out .now) (a .k)
     (rw (
       f₁ .field .ensures,

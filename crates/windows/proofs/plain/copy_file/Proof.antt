@@ -7,7 +7,8 @@ use Rattle.windows.proofs.plain.copy_file.Statement.{statement}
 use Rattle.windows.proofs.plain.copy_file.Tie as tie
 
 -- the last part ends where the window does
-end-fits : (x y count before m room room₀ : ℕ) → before ≡ min x count → m ≡ min y (count - before) → 0 + count ≤ room₀ → room ≡ room₀ → before + m + (count - before - m) ≤ room
+end-fits :
+    (x y count before m room room₀ : ℕ) → before ≡ min x count → m ≡ min y (count - before) → 0 + count ≤ room₀ → room ≡ room₀ → before + m + (count - before - m) ≤ room
 end-fits x y count before m room room₀ e f h q = omega arith
 
 beyond-requires : tie.Need-beyond-requires
