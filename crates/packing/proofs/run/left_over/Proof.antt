@@ -9,7 +9,6 @@ use lib.Pow.{pow-mono}
 use Rattle.bits.specs.Tables.{at}
 use Rattle.bits.specs.Streams.{word}
 use Rattle.bits.specs.Packing.{atHand}
-use Rattle.alphabet.specs.Questions.{limit}
 use Rattle.bits.proofs.Shifts.{push-is, low-is, low-under}
 use Rattle.bits.proofs.Hand.{hand-lt}
 use Rattle.packing.specs.Run.{looked}
@@ -20,12 +19,12 @@ use Rattle.packing.proofs.run.left_over.Statement.{statement}
 use Rattle.packing.proofs.run.left_over.Tie as tie
 
 abbrev Inv-loop : tie.InvT-loop
-Inv-loop table b p a text n from acc₀ i₀ acc i =
-    (from ≡ n - min n 7) × (from ≤ i) × (i ≤ n) × (n ≡ length text)
+Inv-loop table b p a text n left from acc₀ i₀ acc i =
+    (from ≡ n - min n left) × (from ≤ i) × (i ≤ n) × (n ≡ length text)
     × (acc ≡ trailed (atHand p a b (looked table text)) a (p + from * b) ((i - from) * b))
 
 abbrev μ-loop : tie.MeasureT-loop
-μ-loop table b p a text n from acc₀ i₀ acc i = n - i
+μ-loop table b p a text n left from acc₀ i₀ acc i = n - i
 
 -- the loop's head and the entry
 abbrev Head : Type 0
@@ -49,12 +48,18 @@ stream-lt : (h : Head) (k : ℕ) → stream h k < 2
 stream-lt h = hand-lt (start h .args .p) (start h .args .a) (start h .args .b) (looked (start h .args .table .now) (start h .args .text .now))
 
 -- the last bits, and how many they are
-few : (p n b : ℕ) → (p + n * b) % 8 < 8
-few p n b = mod-lt (p + n * b) (lit< tt)
+few-left : (p n b : ℕ) → (p + n * b) % 8 < 8
+few-left p n b = mod-lt (p + n * b) (lit< tt)
 
--- the text's bits are few
-bits-here : (h : Head) → count h * start h .args .b ≤ limit * 8
-bits-here h = product-le (count h) (start h .args .b) (start h .pre .bounded) (start h .pre .narrow)
+mul-left : tie.Need-mul-left Inv-loop μ-loop
+mul-left c =
+    let s = c .before in
+    omega (arith, product-le (length (s .args .text .now)) (s .args .b) (s .pre .bounded) (s .pre .narrow))
+
+add-left : tie.Need-add-left Inv-loop μ-loop
+add-left c =
+    let s = c .before in
+    omega (arith, product-le (length (s .args .text .now)) (s .args .b) (s .pre .bounded) (s .pre .narrow), s .pre .few)
 
 least-requires : tie.Need-least-requires Inv-loop μ-loop
 least-requires c κs = search needs
@@ -101,15 +106,16 @@ loop-again c =
     ap (λ (x : ℕ). x * a .b) (let z : l .i + 1 - f ≡ k + 1 = omega arith in z) ∙ add-mul k 1 (a .b) ∙ ap (λ (x : ℕ). k * a .b + x) (one-mul (a .b)) in
     let place : a .p + l .i * a .b ≡ a .p + f * a .b + k * a .b =
     ap (λ (x : ℕ). a .p + x * a .b) (let z : l .i ≡ f + k = omega arith in z)
-    ∙ ap (λ (x : ℕ). a .p + x) (add-mul (f) k (a .b))
+    ∙ ap (λ (x : ℕ). a .p + x) (add-mul f k (a .b))
     ∙ sym (add-assoc (a .p) (f * a .b) (k * a .b)) in
     let digit : d .result % 2 ^ a .b ≡ word (stream h) (a .p + f * a .b + k * a .b) (a .b) =
     ap (λ (x : ℕ). x % 2 ^ a .b) (d .ensures)
     ∙ looked-digit (a .b) (a .p) (a .a) (a .table .now) (a .text .now) (l .i) inside
     ∙ ap (λ (x : ℕ). word (stream h) x (a .b)) place in
+    let six : k ≤ 6 = omega (arith, l .inv .0, c .before .before .loop-test .taken, few-left (a .p) (count h) (a .b)) in
     let room : l .acc * 2 ^ a .b < 2 ^ 64 =
     subst (λ (x : ℕ). x * 2 ^ a .b < 2 ^ 64) (sym (l .inv .4))
-    (trail-fits (stream h) (stream-lt h) (a .a) (a .p + f * a .b) k (a .b) small (omega (arith, l .inv .0, c .before .before .loop-test .taken)) narrow) in (
+    (trail-fits (stream h) (stream-lt h) (a .a) (a .p + f * a .b) k (a .b) small six narrow) in (
       l .inv .0,
       omega (arith, l .inv .1),
       omega (arith, c .before .before .loop-test .taken),
@@ -121,12 +127,6 @@ loop-again c =
           ∙ ap (trailed (stream h) (a .a) (a .p + f * a .b)) (sym next),
     )
 
-mul-low : tie.Need-mul-low Inv-loop μ-loop
-mul-low c = omega (arith, bits-here (c .before))
-
-add-low : tie.Need-add-low Inv-loop μ-loop
-add-low c = omega (arith, bits-here (c .before), start (c .before) .pre .few)
-
 low-requires : tie.Need-low-requires Inv-loop μ-loop
 low-requires c κs = search needs
 
@@ -136,7 +136,7 @@ cast-result c =
     let l = h .loop in
     let a = start h .args in
     let q : ℕ = (a .p + count h * a .b) % 8 in
-    let least : q < 8 = few (a .p) (count h) (a .b) in
+    let least : q < 8 = few-left (a .p) (count h) (a .b) in
     let below : q < 64 = omega arith in
     omega (arith, c .low .ensures ∙ low-is below (l .acc), low-under (l .acc) q 8 (omega arith))
 
@@ -147,7 +147,7 @@ returns c =
     let s = start h in
     let a = s .args in
     let q : ℕ = (a .p + count h * a .b) % 8 in
-    let least : q < 8 = few (a .p) (count h) (a .b) in
+    let least : q < 8 = few-left (a .p) (count h) (a .b) in
     let below : q < 64 = omega arith in
     let d = looked (a .table .now) (a .text .now) in
     let f : ℕ = from h in
@@ -163,6 +163,8 @@ left-over-spec =
     (tie.spec
     Inv-loop
     μ-loop
+    mul-left
+    add-left
     least-requires
     sub-from
     loop-holds
@@ -171,8 +173,6 @@ left-over-spec =
     add-i
     loop-less
     loop-again
-    mul-low
-    add-low
     low-requires
     cast-result
     returns)
