@@ -132,7 +132,7 @@ fn chunk_end(at: usize, len: usize) -> usize
 }
 
 // A sound mask once each byte's mask is ANDed to it, up to the byte after which only Ascii remains: no later one changes it.
-fn scan(mask: u8, sequence: &[u8]) -> u8
+fn scan_chunks(mask: u8, sequence: &[u8]) -> u8
     requires { ⌜ (16 ≤ mask) × (mask ≤ 31) ⌝ }
     ensures { λ r. ⌜ r ≡ masked mask (now (sequence .entry)) ⌝ }
 {
@@ -151,6 +151,18 @@ fn scan(mask: u8, sequence: &[u8]) -> u8
         at = end;
     }
     acc
+}
+
+// The same. The bases that a text begins with are passed before the table of masks is laid out: most texts, and most pieces, have nothing else.
+fn scan(mask: u8, sequence: &[u8]) -> u8
+    requires { ⌜ (16 ≤ mask) × (mask ≤ 31) ⌝ }
+    ensures { λ r. ⌜ r ≡ masked mask (now (sequence .entry)) ⌝ }
+{
+    let start = pass_bases(sequence, 0, sequence.len());
+    if sequence.len() <= start {
+        return mask;
+    }
+    scan_chunks(mask, &sequence[start..])
 }
 
 // The guess for a whole text.
