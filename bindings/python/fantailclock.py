@@ -26,6 +26,7 @@ import enum
 import importlib.machinery
 import importlib.util
 import io
+import mmap
 import operator
 import os
 import pathlib
@@ -851,6 +852,20 @@ class Stream:
         _calls.stream_end(self._state)
 
 
+_LARGE = 1 << 21  # a large page
+_advise = getattr(ctypes.CDLL(None), "madvise", None) if hasattr(mmap, "MADV_HUGEPAGE") else None
+
+
+def _on_large_pages(memory):
+    """Asks the system for large pages under new memory, where it has them and the memory is long: to hand out small ones, one
+    by one, takes longer than to fill them. It may decline; nothing but the time depends on it."""
+    if _advise is None or len(memory) < 2 * _LARGE:
+        return
+    with _Lent(memory, writable=True) as (address, length):
+        first, end = -(-address // _LARGE), (address + length) // _LARGE
+        _advise(ctypes.c_void_p(first * _LARGE), ctypes.c_size_t((end - first) * _LARGE), mmap.MADV_HUGEPAGE)
+
+
 class Source(Protocol):
     """What a decoder reads from: anything with `read`, as a file has it; None where there is nothing yet."""
 
@@ -940,6 +955,7 @@ class StreamingDecoder(io.RawIOBase):
         self._open()
         gathered = io.BytesIO(bytes(min(_NUMBERS.unpack(self._state)[2], self.AT_ONCE)))
         with gathered.getbuffer() as memory:
+            _on_large_pages(memory)
             count, part = self._fill(memory)
         gathered.truncate(count)
         gathered.seek(count)

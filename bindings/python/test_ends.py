@@ -2,6 +2,7 @@
 
 import io
 import unittest
+import unittest.mock
 
 import fantailclock as fc
 from fantailclock import Alphabet
@@ -116,6 +117,14 @@ class Reads(unittest.TestCase):
                 self.assertTrue(found == expected, (alphabet, size))
             self.assertTrue(decoder().readall() == expected)
             self.assertTrue(io.BufferedReader(decoder()).read() == expected)
+
+    def test_all_of_it_into_long_memory(self):
+        file = bytes(range(256)) * 5200  # more bases than two large pages hold bytes
+        expected = fc.decode_covered(Alphabet.Dna2bit, file, 0, 1, len(file) * 4 - 1)
+        for advise in fc._advise, None:
+            with unittest.mock.patch.object(fc, "_advise", advise):
+                decoder = fc.StreamingDecoder.for_window(io.BytesIO(file), Alphabet.Dna2bit, 1, len(file) * 4 - 1)
+                self.assertTrue(decoder.read() == expected)
 
     def test_more_than_is_asked_for_at_once(self):
         class Small(fc.StreamingDecoder):
