@@ -608,6 +608,12 @@ class Streaming(unittest.TestCase):
             decoder.read(1)
             self.assertEqual(source.given, (2 + count * 2 + 7) // 8)
 
+    def test_the_skip_of_a_window(self):
+        for alphabet in Alphabet:
+            for start in [*range(17), (1 << 60) - 9, (1 << 60) - 2]:
+                state = fc.Stream.for_window(alphabet, start, start + 2).state
+                self.assertEqual((state.alphabet, state.skip, state.budget), (alphabet, start * BITS[alphabet] % 8, 2))
+
     def test_a_skip_is_due_even_with_no_base(self):
         with self.assertRaises(fc.Outstanding):
             fc.StreamingDecoder(io.BytesIO(), 0, 3, 0).read(4)

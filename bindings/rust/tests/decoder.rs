@@ -147,6 +147,17 @@ fn a_failing_source_loses_no_base() {
 }
 
 #[test]
+fn the_skip_of_a_window() {
+    for alphabet in Alphabet::ALL {
+        for start in (0..17).chain([(1 << 60) - 9, (1 << 60) - 2]) {
+            let state = Stream::for_window(alphabet, start, start + 2).unwrap().to_raw();
+            let skip = start % 8 * model::bits(alphabet) % 8;
+            assert_eq!((state.alphabet, state.skip, state.budget), (alphabet.number(), skip, 2), "{alphabet} {start}");
+        }
+    }
+}
+
+#[test]
 fn a_skip_is_due_even_with_no_base() {
     let mut decoder = StreamingDecoder::new(&[][..], Alphabet::Dna2bit, 3, 0).unwrap();
     assert_eq!(decoder.read(&mut [0; 4]).unwrap_err().kind(), ErrorKind::UnexpectedEof);
