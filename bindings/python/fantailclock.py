@@ -885,6 +885,7 @@ class StreamingDecoder(io.RawIOBase):
     was closed raises ValueError, as io's own do; it leaves its source open."""
 
     CHUNK = 1 << 16  # the source bytes that one read takes at most
+    LONG_CHUNK = 1 << 19  # and those that `read()` takes of a long window: fewer steps, and a cache still holds them
     AT_ONCE = 1 << 30  # the memory that `read()` asks for at once, at most; it is filled in place
 
     def __init__(
@@ -916,17 +917,18 @@ class StreamingDecoder(io.RawIOBase):
         self._open()
         return True
 
-    def _fetch(self, bases):
-        """Source bytes for the next bases, so many or what is left of the budget; None where there is nothing yet."""
+    def _fetch(self, bases, most):
+        """At most so many source bytes for the next bases, so many or what is left of the budget; None where there is
+        nothing yet."""
         _, skip, budget, pending_bits, _ = _NUMBERS.unpack(self._state)
         due = skip + min(bases, budget) * self._bits - pending_bits
-        return self._source.read(min((due + 7) // 8, self.CHUNK)) if due > 0 else b""
+        return self._source.read(min((due + 7) // 8, most)) if due > 0 else b""
 
-    def _stepped(self, call, bases, memory):
+    def _stepped(self, call, bases, memory, most):
         """Steps by a call until it gives an answer: what it wrote, or None where the source has nothing yet. One source
-        read that gives a base is enough, so an error of the source never loses a base."""
+        read, of at most so many bytes, that gives a base is enough, so an error of the source never loses a base."""
         while True:
-            fetched = self._fetch(bases)
+            fetched = self._fetch(bases, most)
             if fetched is None:
                 return None
             written, taken, status, state = call(self._state, fetched, memory)
@@ -942,13 +944,15 @@ class StreamingDecoder(io.RawIOBase):
     def readinto(self, out: Buffer) -> Optional[int]:
         """Writes the next bases to the front of `out`; their count, 0 at the window's end."""
         self._open()
-        return self._stepped(_calls.stream_read_into, memoryview(out).nbytes, out)
+        return self._stepped(_calls.stream_read_into, memoryview(out).nbytes, out, self.CHUNK)
 
     def read(self, size: Union[SupportsIndex, None] = -1) -> Optional[bytes]:
         """The next bases, at most `size` of them; without a size all that are left."""
         self._open()
         size = -1 if size is None else operator.index(size)
-        return self.readall() if size < 0 else self._stepped(_calls.stream_read, size, min(size, sys.maxsize))
+        if size < 0:
+            return self.readall()
+        return self._stepped(_calls.stream_read, size, min(size, sys.maxsize), self.CHUNK)
 
     def readall(self) -> Optional[bytes]:
         """All bases that are left; `Outstanding` where the source ends before them."""
@@ -971,7 +975,8 @@ class StreamingDecoder(io.RawIOBase):
         answer of the last read."""
         count, answer = 0, 0
         while count < len(memory):
-            answer = self.readinto(memory[count:])
+            self._open()
+            answer = self._stepped(_calls.stream_read_into, len(memory) - count, memory[count:], self.LONG_CHUNK)
             if not answer:
                 break
             count += answer

@@ -128,13 +128,31 @@ class Reads(unittest.TestCase):
 
     def test_more_than_is_asked_for_at_once(self):
         class Small(fc.StreamingDecoder):
-            AT_ONCE, CHUNK = 10, 3
+            AT_ONCE, CHUNK, LONG_CHUNK = 10, 3, 2
 
         file = bytes(range(200))
         small = Small.for_window(io.BytesIO(file), Alphabet.Dna2bit, 3, 777)
         self.assertEqual(small.read(), fc.decode_covered(Alphabet.Dna2bit, file, 0, 3, 777))
         short = Small.for_window(io.BytesIO(file[:9]), Alphabet.Dna2bit, 3, 777)
         self.assertRaises(fc.Outstanding, short.read)
+
+    def test_what_a_read_of_the_source_takes_at_most(self):
+        class Asked(io.BytesIO):
+            def read(self, count):
+                self.counts.append(count)
+                return super().read(count)
+
+        long, most, file = fc.StreamingDecoder.LONG_CHUNK, fc.StreamingDecoder.CHUNK, bytes((1 << 20) + 7)
+        for read, expected in (
+            (lambda decoder: decoder.read(), [long, long, 7]),
+            (lambda decoder: decoder.read(1 << 20), [most]),
+            (lambda decoder: decoder.readinto(bytearray(1 << 20)), [most]),
+            (lambda decoder: decoder.readinto(bytearray(10)), [10]),
+        ):
+            source = Asked(file)
+            source.counts = []
+            read(fc.StreamingDecoder.for_window(source, Alphabet.Ascii, 0, len(file)))
+            self.assertEqual(source.counts, expected)
 
     def test_a_window_that_no_memory_holds(self):
         far = fc.StreamingDecoder(io.BytesIO(b"\x1b"), Alphabet.Dna2bit, 0, 1 << 60)
