@@ -9,15 +9,15 @@ use borrow.Author.Tests.{le-leb, leb-true, leb-false, eqb-true}
 use lib.Count.{trailingZeros}
 use lib.Dec.{leb, eqb, lit≤}
 use lib.ListN.{length, getD, take, List·getD-eq-default}
-use Rattle.alphabet.specs.Symbols.{coding}
-use Rattle.bits.specs.Tables.{at, Bytes, bytesOf}
+use Rattle.alphabet.specs.Symbols.{coding, folded, folds, foldedEntries, codingBy}
+use Rattle.bits.specs.Tables.{at, tabulate, Bytes, bytesOf}
 use Rattle.bits.proofs.Computed.{both-true}
 use Rattle.alphabet.specs.Questions.{ask_else_then_, Reply, accepted, refused, refusalReply, refusals, tells, firstTelling, by, numberIn}
 use Rattle.alphabet.specs.declared.refusal.Refusal.{Refusal}
 use Rattle.alphabet.specs.declared.refusal.Refusal.the-variants.{Unsound, TooFar, Uncovered, ShortMemory, NonMember, BadSkip, Outstanding, NoAlphabet, TooWide}
 use Rattle.alphabet.specs.Names.{displayName, nameOf, kinds, numberOf, known, kindOf, namedAt}
-use Rattle.alphabet.specs.Guess.{order, masked, lowest, guessOf, freshGuesser, soundGuesser, guesserUpdateAt, guessAt}
-use Rattle.alphabet.specs.Answers.{namedReply, namedTold, guesserUpdatedReply, guesserUpdateTold, guessedReply, guessTold}
+use Rattle.alphabet.specs.Guess.{order, masked, lowest, guessOf, freshGuesser, soundGuesser, guesserAfter, guesserUpdateAt, guessAt}
+use Rattle.alphabet.specs.Answers.{namedReply, namedTold, foldNumber, guesserUpdatedReply, guesserUpdateTold, guessedReply, guessTold}
 use Rattle.alphabet.specs.declared.kind.AlphabetType.{AlphabetType}
 use Rattle.alphabet.specs.declared.kind.AlphabetType.the-variants.{Dna2bit, Dna3bit, DnaIupac, Protein, Ascii, Unknown}
 use Rattle.alphabet.specs.declared.kind.Name.{Name}
@@ -25,6 +25,8 @@ use Rattle.alphabet.specs.declared.kind.Named.{Named}
 use Rattle.alphabet.specs.declared.guesser.AlphabetGuesser.{AlphabetGuesser}
 use Rattle.alphabet.specs.declared.guesser.GuesserUpdated.{GuesserUpdated}
 use Rattle.alphabet.specs.declared.guesser.Guessed.{Guessed}
+use Rattle.alphabet.proofs.Folding.{folded-append, folded-bytes}
+use Rattle.alphabet.proofs.Turns.{entries-folded}
 use Rattle.alphabet.proofs.Masks.{masked-append, masked-le, masked-sound, zeros-lt, guess-holds, holds-each}
 
 -- ---- refusals
@@ -217,10 +219,10 @@ unfolding guesserUpdateAt
 update-told g text = go (soundGuesser g)
   where
     m : ℕ
-    m = masked (g .acc) text
+    m = masked (g .acc) (folded (g .fold) text)
 
-    go : (b : Bool)
-        → guesserUpdatedReply (ask b else GuesserUpdated.Refused (by 1 []) g then GuesserUpdated.Next (record { acc = m })) ≡ (ask b else refused 1 [] then accepted (m ∷ []))
+    go : (b : Bool) → guesserUpdatedReply (ask b else GuesserUpdated.Refused (by 1 []) g then GuesserUpdated.Next (guesserAfter g text))
+        ≡ (ask b else refused 1 [] then accepted (m ∷ foldNumber (g .fold) ∷ []))
     go true = refl
     go false = refl
 
@@ -256,7 +258,7 @@ guess-told g = go (soundGuesser g) refl
 -- ---- the guesser's calls
 
 -- a sound state's answers
-pub update-sound : (g : AlphabetGuesser) (text : List ℕ) → soundGuesser g ≡ true → guesserUpdateAt g text ≡ GuesserUpdated.Next (record { acc = masked (g .acc) text })
+pub update-sound : (g : AlphabetGuesser) (text : List ℕ) → soundGuesser g ≡ true → guesserUpdateAt g text ≡ GuesserUpdated.Next (guesserAfter g text)
 unfolding guesserUpdateAt
 update-sound g text e = rw e
 
@@ -284,38 +286,49 @@ pub guess-whole : (r : Guessed) (g : AlphabetGuesser) → r ≡ guessAt g → (r
 guess-whole r g e = (e, ap guessedReply e ∙ guess-told g)
 
 -- a sound state stays sound
-pub stays-sound : (g : AlphabetGuesser) (text : List ℕ) → Bytes text → soundGuesser g ≡ true → soundGuesser (record { acc = masked (g .acc) text }) ≡ true
+pub stays-sound : (g : AlphabetGuesser) (text : List ℕ) → Bytes text → soundGuesser g ≡ true → soundGuesser (guesserAfter g text) ≡ true
 stays-sound g text bytes e =
     let r = sound-range g e in
-    range-sound (record { acc = masked (g .acc) text }) (masked-sound (g .acc) text bytes (r .0) (r .1)) (omega (arith, masked-le (g .acc) text, r .1))
+    let given : List ℕ = folded (g .fold) text in
+    range-sound (guesserAfter g text) (masked-sound (g .acc) given (folded-bytes (g .fold) text bytes) (r .0) (r .1)) (omega (arith, masked-le (g .acc) given, r .1))
 
 -- an update by a piece and then by another is one by the two joined
-pub update-pieces : (g : AlphabetGuesser) (a b : List ℕ) → Bytes a → soundGuesser g ≡ true → guesserUpdateAt (record { acc = masked (g .acc) a }) b ≡ guesserUpdateAt g (a ++ b)
+pub update-pieces : (g : AlphabetGuesser) (a b : List ℕ) → Bytes a → soundGuesser g ≡ true → guesserUpdateAt (guesserAfter g a) b ≡ guesserUpdateAt g (a ++ b)
 update-pieces g a b bytes e =
-    update-sound (record { acc = masked (g .acc) a }) b (stays-sound g a bytes e)
-    ∙ ap (λ (m : ℕ). GuesserUpdated.Next (record { acc = m })) (sym (masked-append (g .acc) a b))
+    let both : masked (g .acc) (folded (g .fold) (a ++ b)) ≡ masked (masked (g .acc) (folded (g .fold) a)) (folded (g .fold) b) =
+    ap (masked (g .acc)) (folded-append (g .fold) a b) ∙ masked-append (g .acc) (folded (g .fold) a) (folded (g .fold) b) in
+    update-sound (guesserAfter g a) b (stays-sound g a bytes e)
+    ∙ ap (λ (m : ℕ). GuesserUpdated.Next (record { acc = m; fold = g .fold })) (sym both)
     ∙ sym (update-sound g (a ++ b) e)
 
 -- a fresh guesser takes any text, and then guesses as `guess_alphabet`
-module _ (text : List ℕ) (bytes : Bytes text) where
+module _ (fold : Bool) (text : List ℕ) (bytes : Bytes text) where
   abbrev pub after-text : AlphabetGuesser
-  after-text = record { acc = masked 31 text }
+  after-text = record { acc = masked 31 (folded fold text); fold = fold }
 
-  fresh-sound : soundGuesser freshGuesser ≡ true
+  fresh-sound : soundGuesser (freshGuesser fold) ≡ true
   unfolding freshGuesser
-  fresh-sound = range-sound freshGuesser (lit≤ tt) (lit≤ tt)
+  fresh-sound = range-sound (freshGuesser fold) (lit≤ tt) (lit≤ tt)
 
-  pub fresh-update : (u : GuesserUpdated) (g : AlphabetGuesser) → g ≡ freshGuesser → u ≡ guesserUpdateAt g text → u ≡ GuesserUpdated.Next after-text
+  pub fresh-update : (u : GuesserUpdated) (g : AlphabetGuesser) → g ≡ freshGuesser fold → u ≡ guesserUpdateAt g text → u ≡ GuesserUpdated.Next after-text
   unfolding freshGuesser
-  fresh-update u g e f = f ∙ ap (λ (x : AlphabetGuesser). guesserUpdateAt x text) e ∙ update-sound freshGuesser text fresh-sound
+  fresh-update u g e f = f ∙ ap (λ (x : AlphabetGuesser). guesserUpdateAt x text) e ∙ update-sound (freshGuesser fold) text fresh-sound
 
-  pub fresh-guess : (u : Guessed) (g : AlphabetGuesser) → g ≡ after-text → u ≡ guessAt g → u ≡ Guessed.Kind (guessOf text)
+  pub fresh-guess : (u : Guessed) (g : AlphabetGuesser) → g ≡ after-text → u ≡ guessAt g → u ≡ Guessed.Kind (guessOf fold text)
   unfolding freshGuesser guessOf
-  fresh-guess u g e f = f ∙ ap guessAt e ∙ guess-sound after-text (stays-sound freshGuesser text bytes fresh-sound)
+  fresh-guess u g e f = f ∙ ap guessAt e ∙ guess-sound after-text (stays-sound (freshGuesser fold) text bytes fresh-sound)
 
--- every byte of a text is a member of the guessed alphabet
-pub guess-members : (text : List ℕ) → Bytes text → (j : ℕ) → j < length text → coding (guessOf text) .member (at text j) ≡ true
-guess-members text bytes = holds-each (guessOf text) text (guess-holds text bytes)
+-- every byte of a text is a member of the guessed alphabet, where it is packed by the choice that it was guessed by
+pub guess-members : (fold : Bool) (text : List ℕ) → Bytes text → (j : ℕ) → j < length text → codingBy fold (guessOf fold text) .member (at text j) ≡ true
+guess-members fold text bytes = holds-each fold (guessOf fold text) text (guess-holds fold text bytes)
+
+-- ---- tables
+
+-- an alphabet's table, folded by the choice where it has an effect, has the codes that texts are packed by
+pub codes-folded : (fold effect : Bool) (k : AlphabetType) (table : List ℕ) {after : List ℕ} → table ≡ tabulate 256 (coding k .code) → effect ≡ (fold && folds k)
+    → after ≡ foldedEntries effect table → after ≡ tabulate 256 (codingBy fold k .code)
+codes-folded fold effect k table t e q =
+    q ∙ ap (λ (f : Bool). foldedEntries f table) e ∙ entries-folded (fold && folds k) (coding k .code) table t
 
 -- ---- an answer is one of its cases
 

@@ -1,7 +1,7 @@
 -- The laws of symbols and codes that the crates above cite. They open no definition of this crate: what they know of an alphabet stands here and in Calls.
 use mathlib.Core.Path.{_≡_, refl, sym, ap, subst, _∙_}
-use mathlib.Core.Bool.{Bool, true, false, not, _||_, true≢false}
-use mathlib.Core.List.{List, map}
+use mathlib.Core.Bool.{Bool, true, false, not, _||_, _&&_, true≢false}
+use mathlib.Core.List.{List, _++_, map}
 use mathlib.Core.Logic.{_⊎_, inl, inr}
 use Prim.Native.Char.{code as ascii}
 use Prim.Native.Nat.{ℕ, _+_, _^_, _≤_, _<_}
@@ -9,12 +9,15 @@ use native.Mathlib.Nat.{pow-le-pow-right}
 use native.Mathlib.Omega.{arith}
 use borrow.Author.Tests.{ltb-true, lt-ltb, eq-eqb, ne-eqb, eqb-true}
 use lib.Dec.{T, eqb, ltb, eqb→eq, lit≤, lit<}
-use Rattle.bits.specs.Tables.{bytesOf}
-use Rattle.bits.proofs.Computed.{below, T-true}
+use lib.ListN.{length}
+use Rattle.bits.specs.Tables.{at, Bytes, bytesOf}
+use Rattle.bits.proofs.Computed.{below, T-true, and-true, and-false}
 use Rattle.alphabet.specs.declared.kind.AlphabetType.{AlphabetType}
 use Rattle.alphabet.specs.declared.kind.AlphabetType.the-variants.{Dna2bit, Dna3bit, DnaIupac, Protein, Ascii, Unknown}
-use Rattle.alphabet.specs.Symbols.{coded, dna2bit, dna3bit, dnaIupac, protein, symbolOf, codeOf, among, found, Coding, canon, listed, plain, coding, checkSymbols}
+use Rattle.alphabet.specs.Symbols.{coded, dna2bit, dna3bit, dnaIupac, protein, symbolOf, codeOf, among, found, Coding, listed, plain, coding, checkSymbols}
+use Rattle.alphabet.specs.Symbols.{canon, folded, folds, through, codingBy}
 use Rattle.alphabet.specs.Bases.{base}
+use Rattle.alphabet.proofs.Folding as folding
 use Rattle.alphabet.proofs.Pairs.{found-none, found-among, found-back, found-fits, among-byte, symbols-apart, codes-apart}
 
 -- ---- the check of the four lists, computed
@@ -48,15 +51,15 @@ one-of-back : (A : Coding) → ((v : ℕ) → A .member v ≡ true → A .symbol
 one-of-back A back v w m n e = sym (back v m) ∙ ap (A .symbol) e ∙ back w n
 
 listed-lawful : (b : ℕ) (pairs : List (List ℕ)) (other : ℕ) → 0 < b → b ≤ 8 → T (checkSymbols b pairs) → Lawful (listed b pairs other)
-unfolding listed canon
+unfolding listed
 listed-lawful b pairs other some narrow t =
-    let back : (v : ℕ) → among (map symbolOf pairs) (canon v) ≡ true → found codeOf symbolOf other pairs (found symbolOf codeOf 0xff pairs (canon v)) ≡ canon v =
-    λ v m. found-back symbolOf codeOf 0xff other pairs (canon v) (codes-apart b pairs t) m in
+    let back : (v : ℕ) → among (map symbolOf pairs) v ≡ true → found codeOf symbolOf other pairs (found symbolOf codeOf 0xff pairs v) ≡ v =
+    λ v m. found-back symbolOf codeOf 0xff other pairs v (codes-apart b pairs t) m in
     record {
       some-bits = some;
       narrow = narrow;
       byte = λ v m. among-byte b pairs t v m;
-      fits = λ v m. found-fits b 0xff pairs t (canon v) m;
+      fits = λ v m. found-fits b 0xff pairs t v m;
       back = back;
       one-code = one-of-back (listed b pairs other) back;
     }
@@ -73,14 +76,28 @@ plain-lawful =
       one-code = λ v w m n e. e;
     }
 
-pub lawful : (k : AlphabetType) → Lawful (coding k)
+lists-lawful : (k : AlphabetType) → Lawful (coding k)
 unfolding coding
-lawful Dna2bit = listed-lawful 2 dna2bit _ (lit< tt) (lit≤ tt) (lists-checked .of-dna2bit)
-lawful Dna3bit = listed-lawful 3 dna3bit _ (lit< tt) (lit≤ tt) (lists-checked .of-dna3bit)
-lawful DnaIupac = listed-lawful 4 dnaIupac _ (lit< tt) (lit≤ tt) (lists-checked .of-dnaIupac)
-lawful Protein = listed-lawful 5 protein _ (lit< tt) (lit≤ tt) (lists-checked .of-protein)
-lawful Ascii = plain-lawful
-lawful Unknown = plain-lawful
+lists-lawful Dna2bit = listed-lawful 2 dna2bit _ (lit< tt) (lit≤ tt) (lists-checked .of-dna2bit)
+lists-lawful Dna3bit = listed-lawful 3 dna3bit _ (lit< tt) (lit≤ tt) (lists-checked .of-dna3bit)
+lists-lawful DnaIupac = listed-lawful 4 dnaIupac _ (lit< tt) (lit≤ tt) (lists-checked .of-dnaIupac)
+lists-lawful Protein = listed-lawful 5 protein _ (lit< tt) (lit≤ tt) (lists-checked .of-protein)
+lists-lawful Ascii = plain-lawful
+lists-lawful Unknown = plain-lawful
+
+through-lawful : (f : ℕ → ℕ) → ((v : ℕ) → f v < 256 → v < 256) → (A : Coding) → Lawful A → Lawful (through f A)
+through-lawful f h A l =
+    record {
+      some-bits = l .some-bits;
+      narrow = l .narrow;
+      byte = λ v m. h v (l .byte (f v) m);
+      fits = λ v m. l .fits (f v) m;
+      back = λ v m. l .back (f v) m;
+      one-code = λ v w m n e. l .one-code (f v) (f w) m n e;
+    }
+
+pub lawful : (fold : Bool) (k : AlphabetType) → Lawful (codingBy fold k)
+lawful fold k = through-lawful (canon (fold && folds k)) (folding.lt-canon (fold && folds k)) (coding k) (lists-lawful k)
 
 -- ---- what a coder knows of a byte depends on the symbol that the byte stands for alone
 
@@ -96,14 +113,17 @@ plain-by-canon : ByCanon plain
 unfolding plain
 plain-by-canon v w e = (ap (plain .member) e, e)
 
-pub by-canon : (k : AlphabetType) → ByCanon (coding k)
+lists-by-canon : (k : AlphabetType) → ByCanon (coding k)
 unfolding coding
-by-canon Dna2bit = listed-by-canon 2 dna2bit _
-by-canon Dna3bit = listed-by-canon 3 dna3bit _
-by-canon DnaIupac = listed-by-canon 4 dnaIupac _
-by-canon Protein = listed-by-canon 5 protein _
-by-canon Ascii = plain-by-canon
-by-canon Unknown = plain-by-canon
+lists-by-canon Dna2bit = listed-by-canon 2 dna2bit _
+lists-by-canon Dna3bit = listed-by-canon 3 dna3bit _
+lists-by-canon DnaIupac = listed-by-canon 4 dnaIupac _
+lists-by-canon Protein = listed-by-canon 5 protein _
+lists-by-canon Ascii = plain-by-canon
+lists-by-canon Unknown = plain-by-canon
+
+pub by-canon : (fold : Bool) (k : AlphabetType) → ByCanon (codingBy fold k)
+by-canon fold k v w e = let f : ℕ → ℕ = canon (fold && folds k) in lists-by-canon k (f v) (f w) e
 
 -- ---- the four packed alphabets, and the two plain ones
 
@@ -127,8 +147,8 @@ unfolding listed
 listed-packed b pairs other five t =
     record {
       five = five;
-      none = λ v m. found-none symbolOf codeOf 0xff pairs (canon v) m;
-      told = λ v. go (canon v) (among (map symbolOf pairs) (canon v)) refl;
+      none = λ v m. found-none symbolOf codeOf 0xff pairs v m;
+      told = λ v. go v (among (map symbolOf pairs) v) refl;
     }
   where
     go : (x : ℕ) (m : Bool) → among (map symbolOf pairs) x ≡ m → m ≡ not (eqb (found symbolOf codeOf 0xff pairs x) 0xff)
@@ -142,14 +162,18 @@ plain-plain : Plain plain
 unfolding plain
 plain-plain = record { eight = refl; all = λ v h. lt-ltb v 256 h; itself = λ v. refl; same-code = λ v. refl; same-symbol = λ c. refl }
 
-pub shape : (k : AlphabetType) → Packed (coding k) ⊎ Plain (coding k)
+through-packed : (f : ℕ → ℕ) (A : Coding) → Packed A → Packed (through f A)
+through-packed f A p = record { five = p .five; none = λ v m. p .none (f v) m; told = λ v. p .told (f v) }
+
+-- no choice changes which are packed and which plain
+pub shape : (fold : Bool) (k : AlphabetType) → Packed (codingBy fold k) ⊎ Plain (codingBy fold k)
 unfolding coding
-shape Dna2bit = inl (listed-packed 2 dna2bit _ (lit≤ tt) (lists-checked .of-dna2bit))
-shape Dna3bit = inl (listed-packed 3 dna3bit _ (lit≤ tt) (lists-checked .of-dna3bit))
-shape DnaIupac = inl (listed-packed 4 dnaIupac _ (lit≤ tt) (lists-checked .of-dnaIupac))
-shape Protein = inl (listed-packed 5 protein _ (lit≤ tt) (lists-checked .of-protein))
-shape Ascii = inr plain-plain
-shape Unknown = inr plain-plain
+shape fold Dna2bit = inl (through-packed (canon (fold && true)) (coding Dna2bit) (listed-packed 2 dna2bit _ (lit≤ tt) (lists-checked .of-dna2bit)))
+shape fold Dna3bit = inl (through-packed (canon (fold && true)) (coding Dna3bit) (listed-packed 3 dna3bit _ (lit≤ tt) (lists-checked .of-dna3bit)))
+shape fold DnaIupac = inl (through-packed (canon (fold && true)) (coding DnaIupac) (listed-packed 4 dnaIupac _ (lit≤ tt) (lists-checked .of-dnaIupac)))
+shape fold Protein = inl (through-packed (canon (fold && true)) (coding Protein) (listed-packed 5 protein _ (lit≤ tt) (lists-checked .of-protein)))
+shape fold Ascii = inr (subst (λ (b : Bool). Plain (through (canon b) plain)) (sym (and-false fold)) plain-plain)
+shape fold Unknown = inr (subst (λ (b : Bool). Plain (through (canon b) plain)) (sym (and-false fold)) plain-plain)
 
 -- ---- the bits per symbol
 
@@ -165,27 +189,96 @@ pub widths : Widths
 unfolding coding listed plain
 widths = record { of-dna2bit = refl; of-dna3bit = refl; of-dnaIupac = refl; of-protein = refl; of-ascii = refl; of-unknown = refl }
 
--- ---- exactly which bytes are members
+-- ---- exactly which bytes are members, by the choice
 
-pub record Members : Type 0 where
-  pub of-dna2bit : (v : ℕ) → coding Dna2bit .member v ≡ among (bytesOf "TCAG") (coding Dna2bit .canon v)
-  pub of-dna3bit : (v : ℕ) → coding Dna3bit .member v ≡ among (bytesOf "ACGTNRYU") (coding Dna3bit .canon v)
-  pub of-dnaIupac : (v : ℕ) → coding DnaIupac .member v ≡ among (bytesOf "NACMGRSKTWYUBDHV") (coding DnaIupac .canon v)
-  pub of-protein : (v : ℕ) → coding Protein .member v ≡ among (bytesOf "ACDEFGHIKLMNPQRSTVWY*X-.UBZOJ") (coding Protein .canon v)
-  pub of-ascii : (v : ℕ) → coding Ascii .member v ≡ ltb v 256
-  pub of-unknown : (v : ℕ) → coding Unknown .member v ≡ ltb v 256
+pub record Members (fold : Bool) : Type 0 where
+  pub of-dna2bit : (v : ℕ) → codingBy fold Dna2bit .member v ≡ among (bytesOf "TCAG") (canon fold v)
+  pub of-dna3bit : (v : ℕ) → codingBy fold Dna3bit .member v ≡ among (bytesOf "ACGTNRYU") (canon fold v)
+  pub of-dnaIupac : (v : ℕ) → codingBy fold DnaIupac .member v ≡ among (bytesOf "NACMGRSKTWYUBDHV") (canon fold v)
+  pub of-protein : (v : ℕ) → codingBy fold Protein .member v ≡ among (bytesOf "ACDEFGHIKLMNPQRSTVWY*X-.UBZOJ") (canon fold v)
+  pub of-ascii : (v : ℕ) → codingBy fold Ascii .member v ≡ ltb v 256
+  pub of-unknown : (v : ℕ) → codingBy fold Unknown .member v ≡ ltb v 256
 
-pub members : Members
+pub members : (fold : Bool) → Members fold
 unfolding coding listed plain among dna2bit dna3bit dnaIupac protein coded bytesOf
-members =
+members fold =
+    let folds-here : (k : AlphabetType) (v : ℕ) → coding k .member (canon (fold && true) v) ≡ coding k .member (canon fold v) = λ k v.
+    ap (λ (b : Bool). coding k .member (canon b v)) (and-true fold) in
+    let as-it-is : (v : ℕ) → ltb (canon (fold && false) v) 256 ≡ ltb v 256 = λ v. ap (λ (b : Bool). ltb (canon b v) 256) (and-false fold) in
     record {
-      of-dna2bit = λ v. refl;
-      of-dna3bit = λ v. refl;
-      of-dnaIupac = λ v. refl;
-      of-protein = λ v. refl;
-      of-ascii = λ v. refl;
-      of-unknown = λ v. refl;
+      of-dna2bit = folds-here Dna2bit;
+      of-dna3bit = folds-here Dna3bit;
+      of-dnaIupac = folds-here DnaIupac;
+      of-protein = folds-here Protein;
+      of-ascii = as-it-is;
+      of-unknown = as-it-is;
     }
+
+-- ---- what the choice changes, and what it leaves
+
+-- in a list each byte stands for itself
+itself : (k : AlphabetType) (v : ℕ) → coding k .canon v ≡ v
+unfolding coding listed plain
+itself Dna2bit v = refl
+itself Dna3bit v = refl
+itself DnaIupac v = refl
+itself Protein v = refl
+itself Ascii v = refl
+itself Unknown v = refl
+
+pub record Taken (fold : Bool) (k : AlphabetType) : Type 0 where
+  -- what reads sees no choice
+  pub same-width : codingBy fold k .width ≡ coding k .width
+  pub same-symbol : (c : ℕ) → codingBy fold k .symbol c ≡ coding k .symbol c
+  -- a byte has the membership and the code of the byte that it stands for
+  pub stands : (v : ℕ) → codingBy fold k .canon v ≡ canon (fold && folds k) v
+  pub by-member : (v : ℕ) → codingBy fold k .member v ≡ coding k .member (codingBy fold k .canon v)
+  pub by-code : (v : ℕ) → codingBy fold k .code v ≡ coding k .code (codingBy fold k .canon v)
+  -- which stands for itself
+  pub once-only : (v : ℕ) → codingBy fold k .canon (codingBy fold k .canon v) ≡ codingBy fold k .canon v
+
+pub taken : (fold : Bool) (k : AlphabetType) → Taken fold k
+taken fold k =
+    let f : ℕ → ℕ = canon (fold && folds k) in
+    record {
+      same-width = refl;
+      same-symbol = λ c. refl;
+      stands = λ v. itself k (f v);
+      by-member = λ v. sym (ap (coding k .member) (itself k (f v)));
+      by-code = λ v. sym (ap (coding k .code) (itself k (f v)));
+      once-only = λ v. itself k (f (coding k .canon (f v))) ∙ ap f (itself k (f v)) ∙ folding.canon-canon (fold && folds k) v ∙ sym (itself k (f v));
+    }
+
+-- without folding all is as before
+pub unfolded : (k : AlphabetType) → codingBy false k ≡ coding k
+unfolded k = refl
+
+-- the symbols that a text's bytes stand for: the uppercased text where the alphabet folds and the caller chose so, else the text itself
+pub text-stands : (fold : Bool) (k : AlphabetType) (text : List ℕ) → map (codingBy fold k .canon) text ≡ folded (fold && folds k) text
+text-stands fold k text = folding.map-folded (fold && folds k) (codingBy fold k .canon) (taken fold k .stands) text
+
+-- in every alphabet a byte is taken as what it stands for is: Ascii and Unknown hold a letter in either case
+pub member-folded : (fold : Bool) (k : AlphabetType) (v : ℕ) → coding k .member (canon fold v) ≡ codingBy fold k .member v
+member-folded false k v = refl
+member-folded true Dna2bit v = refl
+member-folded true Dna3bit v = refl
+member-folded true DnaIupac v = refl
+member-folded true Protein v = refl
+member-folded true Ascii v = members false .of-ascii (canon true v) ∙ folding.upper-below-256 v ∙ sym (members false .of-ascii v)
+member-folded true Unknown v = members false .of-unknown (canon true v) ∙ folding.upper-below-256 v ∙ sym (members false .of-unknown v)
+
+-- texts by the choice
+pub length-folded : (fold : Bool) (text : List ℕ) → length (folded fold text) ≡ length text
+length-folded = folding.length-folded
+
+pub at-folded : (fold : Bool) (text : List ℕ) (i : ℕ) → at (folded fold text) i ≡ canon fold (at text i)
+at-folded = folding.at-folded
+
+pub folded-append : (fold : Bool) (a b : List ℕ) → folded fold (a ++ b) ≡ folded fold a ++ folded fold b
+folded-append = folding.folded-append
+
+pub folded-bytes : (fold : Bool) (text : List ℕ) → Bytes text → Bytes (folded fold text)
+folded-bytes = folding.folded-bytes
 
 -- ---- assigned codes: no symbol has two, and those of Protein end at 28
 
@@ -194,7 +287,7 @@ pub Assigned : Coding → ℕ → Type 0
 Assigned A n = (c : ℕ) → c < n → (A .member (A .symbol c) ≡ true) × (A .code (A .symbol c) ≡ c)
 
 listed-assigned : (b : ℕ) (pairs : List (List ℕ)) (other n : ℕ) → T (checkSymbols b pairs) → ((c : ℕ) → c < n → T (among (map codeOf pairs) c)) → Assigned (listed b pairs other) n
-unfolding listed canon Assigned
+unfolding listed Assigned
 listed-assigned b pairs other n t h c l =
     let m : among (map codeOf pairs) c ≡ true = T-true (among (map codeOf pairs) c) (h c l) in
     (found-among codeOf symbolOf other pairs c m, found-back codeOf symbolOf other 0xff pairs c (symbols-apart b pairs t) m)
@@ -228,7 +321,7 @@ pub data Ucsc (v : ℕ) : Type 0 where
   is-g : v ≡ ascii "G" → coding Dna2bit .code v ≡ 3 → Ucsc v
 
 pub dna2bit-codes : (v : ℕ) → coding Dna2bit .member v ≡ true → Ucsc v
-unfolding coding listed canon among found dna2bit coded bytesOf
+unfolding coding listed among found dna2bit coded bytesOf
 dna2bit-codes v m = go (eqb v (ascii "T")) refl (eqb v (ascii "C")) refl (eqb v (ascii "A")) refl (eqb v (ascii "G")) refl m
   where
     go : (t : Bool) → eqb v (ascii "T") ≡ t → (c : Bool) → eqb v (ascii "C") ≡ c → (a : Bool) → eqb v (ascii "A") ≡ a → (g : Bool) → eqb v (ascii "G") ≡ g
@@ -252,3 +345,17 @@ one-of-four P a c g t x =
     let two : eqb x 65 || eqb x 67 ≡ true → P x = either (eqb x 65) (eqb x 67) (is 65 a) (is 67 c) in
     let three : (eqb x 65 || eqb x 67) || eqb x 71 ≡ true → P x = either (eqb x 65 || eqb x 67) (eqb x 71) two (is 71 g) in
     either ((eqb x 65 || eqb x 67) || eqb x 71) (eqb x 84) three (is 84 t)
+
+-- every alphabet holds them
+list-holds : (k : AlphabetType) (x : ℕ) → base x ≡ true → coding k .member x ≡ true
+unfolding coding listed plain among dna2bit dna3bit dnaIupac protein coded bytesOf
+list-holds Dna2bit = one-of-four (λ (x : ℕ). coding Dna2bit .member x ≡ true) refl refl refl refl
+list-holds Dna3bit = one-of-four (λ (x : ℕ). coding Dna3bit .member x ≡ true) refl refl refl refl
+list-holds DnaIupac = one-of-four (λ (x : ℕ). coding DnaIupac .member x ≡ true) refl refl refl refl
+list-holds Protein = one-of-four (λ (x : ℕ). coding Protein .member x ≡ true) refl refl refl refl
+list-holds Ascii = one-of-four (λ (x : ℕ). coding Ascii .member x ≡ true) refl refl refl refl
+list-holds Unknown = one-of-four (λ (x : ℕ). coding Unknown .member x ≡ true) refl refl refl refl
+
+-- and whatever stands for them
+pub base-member : (fold : Bool) (k : AlphabetType) (x : ℕ) → base (canon fold x) ≡ true → codingBy fold k .member x ≡ true
+base-member fold k x e = sym (member-folded fold k x) ∙ list-holds k (canon fold x) e

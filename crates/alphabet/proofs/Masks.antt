@@ -11,12 +11,13 @@ use lib.Count.{trailingZeros}
 use lib.Dec.{eqb, eqb→eq, lit<, lit≤}
 use lib.ListN.{length, getD}
 use Rattle.bits.specs.Tables.{at, Bytes}
-use Rattle.bits.proofs.Computed.{below, both-true}
+use Rattle.bits.proofs.Computed.{below, both-true, and-true}
 use Rattle.alphabet.specs.declared.kind.AlphabetType.{AlphabetType}
 use Rattle.alphabet.specs.declared.kind.AlphabetType.the-variants.{Dna2bit, Dna3bit, DnaIupac, Protein, Ascii, Unknown}
-use Rattle.alphabet.specs.Symbols.{coding}
+use Rattle.alphabet.specs.Symbols.{coding, canon, folded, codingBy}
 use Rattle.alphabet.specs.Guess.{order, isSet, holders, maskOf, masked, lowest, guessOf, holdsAll, firstHolding}
-use Rattle.alphabet.proofs.Laws.{members}
+use Rattle.alphabet.proofs.Folding.{folded-bytes}
+use Rattle.alphabet.proofs.Laws.{members, member-folded}
 
 -- ---- bits
 
@@ -84,18 +85,14 @@ and-assoc : (a b c : Bool) → (a && b) && c ≡ a && (b && c)
 and-assoc true b c = refl
 and-assoc false b c = refl
 
-and-true : (a : Bool) → a && true ≡ a
-and-true true = refl
-and-true false = refl
-
 -- bit i stays while alphabet i holds each byte
-pub masked-bit : (i : ℕ) → i < 5 → (m : ℕ) (text : List ℕ) → isSet i (masked m text) ≡ isSet i m && holdsAll (getD order i Unknown) text
+pub masked-bit : (i : ℕ) → i < 5 → (m : ℕ) (text : List ℕ) → isSet i (masked m text) ≡ isSet i m && holdsAll false (getD order i Unknown) text
 unfolding masked holdsAll
 masked-bit i h m [] = sym (and-true (isSet i m))
 masked-bit i h m (v ∷ text) =
     masked-bit i h (bitAnd m (maskOf v)) text
-    ∙ ap (λ (b : Bool). b && holdsAll (getD order i Unknown) text) (set-and i m (maskOf v) ∙ ap (λ (b : Bool). isSet i m && b) (mask-bit i v h))
-    ∙ and-assoc (isSet i m) (coding (getD order i Unknown) .member v) (holdsAll (getD order i Unknown) text)
+    ∙ ap (λ (b : Bool). b && holdsAll false (getD order i Unknown) text) (set-and i m (maskOf v) ∙ ap (λ (b : Bool). isSet i m && b) (mask-bit i v h))
+    ∙ and-assoc (isSet i m) (coding (getD order i Unknown) .member v) (holdsAll false (getD order i Unknown) text)
 
 -- piece by piece is the whole
 pub masked-append : (m : ℕ) (a b : List ℕ) → masked m (a ++ b) ≡ masked (masked m a) b
@@ -110,17 +107,17 @@ masked-le m [] = le-refl m
 masked-le m (v ∷ text) = le-trans (masked-le (bitAnd m (maskOf v)) text) (and-le-l m (maskOf v))
 
 -- Ascii holds every byte
-pub ascii-holds : (text : List ℕ) → Bytes text → holdsAll Ascii text ≡ true
+pub ascii-holds : (fold : Bool) (text : List ℕ) → Bytes text → holdsAll fold Ascii text ≡ true
 unfolding holdsAll
-ascii-holds [] h = refl
-ascii-holds (v ∷ text) h =
-    ap₂ (λ (a b : Bool). a && b) (members .of-ascii v ∙ lt-ltb v 256 (h 0)) (ascii-holds text (λ i. h (suc i)))
+ascii-holds fold [] h = refl
+ascii-holds fold (v ∷ text) h =
+    ap₂ (λ (a b : Bool). a && b) (members fold .of-ascii v ∙ lt-ltb v 256 (h 0)) (ascii-holds fold text (λ i. h (suc i)))
 
 -- so a sound mask stays sound
 pub masked-sound : (m : ℕ) (text : List ℕ) → Bytes text → 16 ≤ m → m ≤ 31 → 16 ≤ masked m text
 masked-sound m text bytes h l =
     let was : isSet 4 m ≡ true = eq-eqb (m / 2 ^ 4 % 2) 1 (omega arith) in
-    let is : isSet 4 (masked m text) ≡ true = masked-bit 4 (lit< tt) m text ∙ ap₂ (λ (a b : Bool). a && b) was (ascii-holds text bytes) in
+    let is : isSet 4 (masked m text) ≡ true = masked-bit 4 (lit< tt) m text ∙ ap₂ (λ (a b : Bool). a && b) was (ascii-holds false text bytes) in
     let e : masked m text / 2 ^ 4 % 2 ≡ 1 = eqb-true _ _ is in
     omega arith
 
@@ -163,40 +160,56 @@ picked false false true d = refl
 picked false false false true = refl
 picked false false false false = refl
 
--- the guess for a text is the first alphabet in the order that holds every byte of it
-pub guess-first : (text : List ℕ) → Bytes text → guessOf text ≡ firstHolding order text
+-- bit i of the mask of what a byte stands for is set exactly when alphabet i of the order takes the byte by that choice
+pub mask-takes : (fold : Bool) (i v : ℕ) → i < 5 → isSet i (maskOf (canon fold v)) ≡ codingBy fold (getD order i Unknown) .member v
+mask-takes fold i v h = mask-bit i (canon fold v) h ∙ member-folded fold (getD order i Unknown) v
+
+-- an alphabet holds a text by the choice exactly when it holds the text by the choice as it is
+holds-folded : (fold : Bool) (k : AlphabetType) (text : List ℕ) → holdsAll false k (folded fold text) ≡ holdsAll fold k text
+unfolding holdsAll
+holds-folded false k text = refl
+holds-folded true k [] = refl
+holds-folded true k (v ∷ text) = ap₂ (λ (a b : Bool). a && b) (member-folded true k v) (holds-folded true k text)
+
+-- the guess for a text is the first alphabet in the order that holds every byte of it, by the choice
+pub guess-first : (fold : Bool) (text : List ℕ) → Bytes text → guessOf fold text ≡ firstHolding fold order text
 unfolding guessOf lowest firstHolding
-guess-first text bytes =
-    let m : ℕ = masked 31 text in
-    ap (λ (n : ℕ). getD order n Unknown) (zeros-lowest m (masked-sound 31 text bytes (lit≤ tt) (lit≤ tt)) (masked-le 31 text))
+guess-first fold text bytes =
+    let given : List ℕ = folded fold text in
+    let m : ℕ = masked 31 given in
+    let bit : (i : ℕ) → i < 5 → isSet i m ≡ isSet i 31 && holdsAll fold (getD order i Unknown) text =
+    λ i h. masked-bit i h 31 given ∙ ap (λ (b : Bool). isSet i 31 && b) (holds-folded fold (getD order i Unknown) text) in
+    ap (λ (n : ℕ). getD order n Unknown) (zeros-lowest m (masked-sound 31 given (folded-bytes fold text bytes) (lit≤ tt) (lit≤ tt)) (masked-le 31 given))
     ∙ picked (isSet 0 m) (isSet 1 m) (isSet 2 m) (isSet 3 m)
-    ∙ simp (masked-bit 0 (lit< tt) 31 text, masked-bit 1 (lit< tt) 31 text, masked-bit 2 (lit< tt) 31 text, masked-bit 3 (lit< tt) 31 text, ascii-holds text bytes)
+    ∙ simp (bit 0 (lit< tt), bit 1 (lit< tt), bit 2 (lit< tt), bit 3 (lit< tt), ascii-holds fold text bytes)
 
 -- the empty text gives Dna2bit
-pub guess-empty : guessOf [] ≡ Dna2bit
+pub guess-empty : (fold : Bool) → guessOf fold [] ≡ Dna2bit
 unfolding guessOf masked lowest trailingZeros
-guess-empty = refl
+guess-empty true = refl
+guess-empty false = refl
 
 -- the first of a list that holds a text holds it, where one does
-first-holds : (ks : List AlphabetType) (text : List ℕ) (i : ℕ) → holdsAll (getD ks i Unknown) text ≡ true → i < length ks → holdsAll (firstHolding ks text) text ≡ true
+first-holds : (fold : Bool) (ks : List AlphabetType) (text : List ℕ) (i : ℕ) → holdsAll fold (getD ks i Unknown) text ≡ true → i < length ks
+    → holdsAll fold (firstHolding fold ks text) text ≡ true
 unfolding firstHolding
-first-holds [] text i e h = absurd (not-suc-le-zero h)
-first-holds (k ∷ ks) text i e h = go (holdsAll k text) refl i e h (λ j q l. first-holds ks text j q l)
+first-holds fold [] text i e h = absurd (not-suc-le-zero h)
+first-holds fold (k ∷ ks) text i e h = go (holdsAll fold k text) refl i e h (λ j q l. first-holds fold ks text j q l)
   where
-    go : (b : Bool) → holdsAll k text ≡ b → (j : ℕ) → holdsAll (getD (k ∷ ks) j Unknown) text ≡ true → j < length (k ∷ ks)
-        → ((n : ℕ) → holdsAll (getD ks n Unknown) text ≡ true → n < length ks → holdsAll (firstHolding ks text) text ≡ true)
-        → holdsAll (cond b k (firstHolding ks text)) text ≡ true
+    go : (b : Bool) → holdsAll fold k text ≡ b → (j : ℕ) → holdsAll fold (getD (k ∷ ks) j Unknown) text ≡ true → j < length (k ∷ ks)
+        → ((n : ℕ) → holdsAll fold (getD ks n Unknown) text ≡ true → n < length ks → holdsAll fold (firstHolding fold ks text) text ≡ true)
+        → holdsAll fold (cond b k (firstHolding fold ks text)) text ≡ true
     go true q j m l ih = q
     go false q zero m l ih = absurd (true≢false (sym m ∙ q))
     go false q (suc j) m l ih = ih j m (le-of-suc-le-suc l)
 
 -- so the guessed alphabet holds the text
-pub guess-holds : (text : List ℕ) → Bytes text → holdsAll (guessOf text) text ≡ true
-guess-holds text bytes = rw (guess-first text bytes) (first-holds order text 4 (ascii-holds text bytes) (lit< tt))
+pub guess-holds : (fold : Bool) (text : List ℕ) → Bytes text → holdsAll fold (guessOf fold text) text ≡ true
+guess-holds fold text bytes = rw (guess-first fold text bytes) (first-holds fold order text 4 (ascii-holds fold text bytes) (lit< tt))
 
 -- and has each of its bytes
-pub holds-each : (k : AlphabetType) (text : List ℕ) → holdsAll k text ≡ true → (j : ℕ) → j < length text → coding k .member (at text j) ≡ true
+pub holds-each : (fold : Bool) (k : AlphabetType) (text : List ℕ) → holdsAll fold k text ≡ true → (j : ℕ) → j < length text → codingBy fold k .member (at text j) ≡ true
 unfolding holdsAll
-holds-each k [] e j h = absurd (not-suc-le-zero h)
-holds-each k (v ∷ text) e zero h = both-true (coding k .member v) (holdsAll k text) e .0
-holds-each k (v ∷ text) e (suc j) h = holds-each k text (both-true (coding k .member v) (holdsAll k text) e .1) j (le-of-suc-le-suc h)
+holds-each fold k [] e j h = absurd (not-suc-le-zero h)
+holds-each fold k (v ∷ text) e zero h = both-true (codingBy fold k .member v) (holdsAll fold k text) e .0
+holds-each fold k (v ∷ text) e (suc j) h = holds-each fold k text (both-true (codingBy fold k .member v) (holdsAll fold k text) e .1) j (le-of-suc-le-suc h)

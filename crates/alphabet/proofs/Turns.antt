@@ -2,18 +2,21 @@
 use mathlib.Core.Path.{_≡_, refl, sym, ap, ap₂, _∙_}
 use mathlib.Core.Bool.{Bool, true, false, _||_}
 use mathlib.Core.List.{List, [], _∷_, map}
+use mathlib.Core.Logic.{_⊎_, inl, inr}
 use Prim.Native.Nat.{ℕ, suc, _+_, _-_, _<_, _≤_}
+use native.Mathlib.Decide.{decLt}
 use native.Mathlib.Numerals.{add-one}
 use native.Mathlib.Omega.{arith}
 use borrow.Author.Tests.{eq-eqb, ne-eqb}
 use lib.Bits.{bitAnd}
 use lib.Dec.{eqb}
-use lib.ListN.{length, getD, set, drop, replicate, drop-of-length-le}
-use lib.Seq.{drop-cons, drop-length, getD-drop, set-out}
+use lib.ListN.{length, getD, set, drop, replicate, length-set, drop-of-length-le}
+use lib.Seq.{drop-cons, drop-length, getD-drop, set-out, getD-set-other}
 use Rattle.bits.specs.Tables.{tabulate, at, Bytes}
-use Rattle.bits.proofs.Tabulated.{length-tabulate, getD-tabulate, replicate-tabulate, set-tabulate}
-use Rattle.alphabet.specs.Symbols.{symbolOf, among, found}
+use Rattle.bits.proofs.Tabulated.{length-tabulate, getD-tabulate, is-tabulate, tabulate-ext, front-more, replicate-tabulate, set-tabulate}
+use Rattle.alphabet.specs.Symbols.{symbolOf, among, found, canon, folded, upper, foldedEntries}
 use Rattle.alphabet.specs.Guess.{maskOf, masked}
+use Rattle.alphabet.proofs.Folding.{upper-below, upper-above, upper-between, canon-lt, at-folded, length-folded}
 use Rattle.alphabet.proofs.Masks.{masked-ascii}
 
 -- ---- a table filled from a list, read from its end
@@ -52,6 +55,54 @@ module _ (n none : ℕ) (key value : List ℕ → ℕ) (pairs : List (List ℕ))
       let zero′ : i ≡ 0 = omega arith in
       e ∙ ap (λ (j : ℕ). tabulate n (found key value none (drop j pairs))) zero′
 
+-- ---- a table whose lowercase letters get the entries of their uppercase letters
+
+module _ (entries : List ℕ) where
+  -- the letters below v have them, and from v on nothing is changed
+  pub record FoldedTo (v : ℕ) (table : List ℕ) : Type 0 where
+    pub from : 0x61 ≤ v
+    pub until : v ≤ 0x7b
+    pub long : length table ≡ length entries
+    pub done : (k : ℕ) → k < v → at table k ≡ at entries (upper k)
+    pub rest : (k : ℕ) → v ≤ k → at table k ≡ at entries k
+
+  pub fold-none : FoldedTo 0x61 entries
+  fold-none = record { from = omega arith; until = omega arith; long = refl; done = λ k h. sym (ap (at entries) (upper-below k h)); rest = λ k h. refl }
+
+  -- the next letter gets the entry that stands 32 places before its own: no letter's, so still the first one
+  pub fold-more : (table : List ℕ) (v : ℕ) → v < 0x7b → v < length table → FoldedTo v table → FoldedTo (v + 1) (set table v (at table (v - 0x20)))
+  fold-more table v h within p =
+      let x : at table (v - 0x20) ≡ at entries (upper v) =
+      p .done (v - 0x20) (omega (arith, p .from))
+      ∙ ap (at entries) (upper-below (v - 0x20) (omega arith) ∙ sym (upper-between v (p .from) (omega arith))) in
+      record {
+        from = omega (arith, p .from);
+        until = omega arith;
+        long = length-set table v (at table (v - 0x20)) ∙ p .long;
+        done = λ k l. ap (λ (y : ℕ). at (set table v y) k) x ∙ front-more (λ j. at entries (upper j)) 0 table v within (p .done) k l;
+        rest = λ k l. getD-set-other table v k (at table (v - 0x20)) 0 (λ e. omega arith) ∙ p .rest k (omega arith);
+      }
+
+  -- all letters that the table has places for are done
+  pub fold-done : (table : List ℕ) (v : ℕ) → (0x7b ≤ v) ⊎ (length table ≤ v) → FoldedTo v table → table ≡ foldedEntries true entries
+  fold-done table v e p = is-tabulate (length entries) (λ k. at entries (upper k)) 0 table (p .long) (λ k l. go k l e (decLt k v))
+    where
+      go : (k : ℕ) → k < length entries → (0x7b ≤ v) ⊎ (length table ≤ v) → Dec (k < v) → at table k ≡ at entries (upper k)
+      go k l e (yes h) = p .done k h
+      go k l (inl a) (no n) = p .rest k (omega arith) ∙ sym (ap (at entries) (upper-above k (omega arith)))
+      go k l (inr b) (no n) = absurd (omega (arith, p .long))
+
+  -- without folding a table stays as it is
+  pub fold-kept : entries ≡ foldedEntries false entries
+  fold-kept = is-tabulate (length entries) (at entries) 0 entries refl (λ k l. refl)
+
+-- a table of f, folded by a choice, is the table of f by the choice
+pub entries-folded : (fold : Bool) (f : ℕ → ℕ) (entries : List ℕ) → entries ≡ tabulate 256 f → foldedEntries fold entries ≡ tabulate 256 (λ v. f (canon fold v))
+entries-folded fold f entries e =
+    ap (λ (n : ℕ). tabulate n (λ v. at entries (canon fold v))) (ap length e ∙ length-tabulate 256 f)
+    ∙ tabulate-ext 256 (λ v. at entries (canon fold v)) (λ v. f (canon fold v))
+    (λ v h. ap (λ (l : List ℕ). at l (canon fold v)) e ∙ getD-tabulate 256 f (canon fold v) 0 (canon-lt fold v h))
+
 -- ---- a list searched for a symbol
 
 module _ (pairs : List (List ℕ)) (v : ℕ) where
@@ -75,15 +126,20 @@ module _ (pairs : List (List ℕ)) (v : ℕ) where
   unfolding among
   listed-none i h e = sym (ap (λ (l : List (List ℕ)). among (map symbolOf l) v) (drop-of-length-le pairs h)) ∙ e
 
--- ---- a text scanned by masks
+-- ---- a text scanned by masks, each byte as what it stands for
 
 -- the byte at i is taken, and those after it are left
-pub scan-more : (table text : List ℕ) (m i v : ℕ) {r : ℕ} → table ≡ tabulate 256 maskOf → v ≡ at text i → v < 256 → i < length text
-    → masked m (drop i text) ≡ r → masked (bitAnd m (at table v)) (drop (i + 1) text) ≡ r
+pub scan-more : (fold : Bool) (table text : List ℕ) (m i v : ℕ) {r : ℕ} → table ≡ tabulate 256 (λ x. maskOf (canon fold x)) → v ≡ at text i → v < 256 → i < length text
+    → masked m (drop i (folded fold text)) ≡ r → masked (bitAnd m (at table v)) (drop (i + 1) (folded fold text)) ≡ r
 unfolding masked
-scan-more table text m i v t q b h e =
-    let here : at table v ≡ maskOf (at text i) = ap (λ (l : List ℕ). at l v) t ∙ getD-tabulate 256 maskOf v 0 b ∙ ap maskOf q in
-    rw (add-one, here) (sym (ap (masked m) (drop-cons text i 0 h)) ∙ e)
+scan-more fold table text m i v t q b h e =
+    let given : List ℕ = folded fold text in
+    let here : at table v ≡ maskOf (at given i) =
+    ap (λ (l : List ℕ). at l v) t
+    ∙ getD-tabulate 256 (λ x. maskOf (canon fold x)) v 0 b
+    ∙ ap (λ (x : ℕ). maskOf (canon fold x)) q
+    ∙ ap maskOf (sym (at-folded fold text i)) in
+    rw (add-one, here) (sym (ap (masked m) (drop-cons given i 0 (omega (arith, h, length-folded fold text)))) ∙ e)
 
 -- nothing is left
 pub scan-done : (text : List ℕ) (m i : ℕ) {r : ℕ} → length text ≤ i → masked m (drop i text) ≡ r → m ≡ r

@@ -1,9 +1,11 @@
 -- Answers by number. States document 01, "Code places and language forms", its last rule: for each answer that is an enum, the number and the values of
 -- its cases, and then what the call tells in these terms. A state that comes back on a refusal is told by the call's own definition.
 use Prim.Native.Nat.{ℕ}
+use mathlib.Core.Bool.{Bool, true, false}
 use mathlib.Core.List.{List, [], _∷_}
 use lib.Count.{trailingZeros}
 use Rattle.alphabet.specs.Questions.{ask_else_then_, Reply, accepted, refused, refusalReply}
+use Rattle.alphabet.specs.Symbols.{folded}
 use Rattle.alphabet.specs.Names.{numberOf, known}
 use Rattle.alphabet.specs.Guess.{masked, soundGuesser}
 use Rattle.alphabet.specs.declared.kind.Named.{Named}
@@ -20,14 +22,19 @@ namedReply (Named.Refused q) = refusalReply q
 abbrev pub namedTold : ℕ → Reply
 namedTold number = ask known number else refused 8 [] then accepted (number ∷ [])
 
--- the guesser's `update`: the next mask
+-- the choice by number: 1 to fold, 0 not to
+abbrev pub foldNumber : Bool → ℕ
+foldNumber true = 1
+foldNumber false = 0
+
+-- the guesser's `update`: the next mask, and the choice
 abbrev pub guesserUpdatedReply : GuesserUpdated → Reply
-guesserUpdatedReply (GuesserUpdated.Next g) = accepted (g .acc ∷ [])
+guesserUpdatedReply (GuesserUpdated.Next g) = accepted (g .acc ∷ foldNumber (g .fold) ∷ [])
 guesserUpdatedReply (GuesserUpdated.Refused q g) = refusalReply q
 
--- it is the mask ANDed with each byte's
+-- it is the mask ANDed with each byte's, by the state's choice, which stays
 abbrev pub guesserUpdateTold : AlphabetGuesser → List ℕ → Reply
-guesserUpdateTold g text = ask soundGuesser g else refused 1 [] then accepted (masked (g .acc) text ∷ [])
+guesserUpdateTold g text = ask soundGuesser g else refused 1 [] then accepted (masked (g .acc) (folded (g .fold) text) ∷ foldNumber (g .fold) ∷ [])
 
 -- the guesser's `guess`: the alphabet's number
 abbrev pub guessedReply : Guessed → Reply

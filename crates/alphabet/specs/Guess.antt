@@ -1,4 +1,4 @@
--- The guesser. States document 01, "Leaf 2: the guesser", the mask of "Leaf 1", and question 4 for the guesser.
+-- The guesser. States document 01, "Leaf 2: the guesser", the mask of "Leaf 1", question 4 for the guesser, and the choice of request A1.
 use Prim.Native.Nat.{ℕ, _+_, _*_, _/_, _%_, _^_}
 use mathlib.Core.Bool.{Bool, true, cond, _&&_}
 use mathlib.Core.List.{List, [], _∷_}
@@ -7,7 +7,7 @@ use lib.Count.{trailingZeros}
 use lib.Dec.{leb, eqb}
 use lib.ListN.{getD}
 use Rattle.alphabet.specs.Questions.{ask_else_then_, by}
-use Rattle.alphabet.specs.Symbols.{Coding, coding}
+use Rattle.alphabet.specs.Symbols.{Coding, coding, folded, codingBy}
 use Rattle.alphabet.specs.declared.kind.AlphabetType.{AlphabetType}
 use Rattle.alphabet.specs.declared.kind.AlphabetType.the-variants.{Dna2bit, Dna3bit, DnaIupac, Protein, Ascii, Unknown}
 use Rattle.alphabet.specs.declared.guesser.AlphabetGuesser.{AlphabetGuesser}
@@ -44,35 +44,39 @@ lowest m = getD order (trailingZeros 8 m) Unknown
 
 -- ---- the guess for a text
 
--- `guess_alphabet`: the mask starts at 31
-unfoldable pub guessOf : List ℕ → AlphabetType
-guessOf text = lowest (masked 31 text)
+-- `guess_alphabet`: the mask starts at 31, and the masks are looked up for the text by the caller's choice
+unfoldable pub guessOf : Bool → List ℕ → AlphabetType
+guessOf fold text = lowest (masked 31 (folded fold text))
 
--- whether an alphabet holds every byte of a text
-unfoldable pub holdsAll : AlphabetType → List ℕ → Bool
-holdsAll k [] = true
-holdsAll k (v ∷ text) = coding k .member v && holdsAll k text
+-- whether an alphabet holds every byte of a text, by the choice
+unfoldable pub holdsAll : Bool → AlphabetType → List ℕ → Bool
+holdsAll fold k [] = true
+holdsAll fold k (v ∷ text) = codingBy fold k .member v && holdsAll fold k text
 
--- the first alphabet of a list that holds every byte of a text
-unfoldable pub firstHolding : List AlphabetType → List ℕ → AlphabetType
-firstHolding [] text = Unknown
-firstHolding (k ∷ ks) text = cond (holdsAll k text) k (firstHolding ks text)
+-- the first alphabet of a list that holds every byte of a text, by the choice
+unfoldable pub firstHolding : Bool → List AlphabetType → List ℕ → AlphabetType
+firstHolding fold [] text = Unknown
+firstHolding fold (k ∷ ks) text = cond (holdsAll fold k text) k (firstHolding fold ks text)
 
 -- ---- the guesser's calls
 
 -- `new`: a guesser that has seen nothing
-unfoldable pub freshGuesser : AlphabetGuesser
-freshGuesser = record { acc = 31 }
+unfoldable pub freshGuesser : Bool → AlphabetGuesser
+freshGuesser fold = record { acc = 31; fold = fold }
 
--- question 4: is the mask 16 to 31?
+-- question 4: is the mask 16 to 31? (Either choice is sound.)
 unfoldable pub soundGuesser : AlphabetGuesser → Bool
 soundGuesser g = leb 16 (g .acc) && leb (g .acc) 31
 
--- `update`: the state after a text
+-- the state after a text: the choice stays
+abbrev pub guesserAfter : AlphabetGuesser → List ℕ → AlphabetGuesser
+guesserAfter g text = record { acc = masked (g .acc) (folded (g .fold) text); fold = g .fold }
+
+-- `update`
 unfoldable pub guesserUpdateAt : AlphabetGuesser → List ℕ → GuesserUpdated
 guesserUpdateAt g text =
     ask soundGuesser g else GuesserUpdated.Refused (by 1 []) g then
-    GuesserUpdated.Next (record { acc = masked (g .acc) text })
+    GuesserUpdated.Next (guesserAfter g text)
 
 -- `guess`: the alphabet of the state's mask
 unfoldable pub guessAt : AlphabetGuesser → Guessed

@@ -6,7 +6,7 @@ use lib.Dec.{leb}
 use lib.ListN.{getD, length, replicate}
 use Rattle.bits.specs.Tables.{bytesOf}
 use Rattle.alphabet.specs.Questions.{ask_else_then_, by}
-use Rattle.alphabet.specs.Symbols.{Coding, coding}
+use Rattle.alphabet.specs.Symbols.{Coding, coding, codingBy}
 use Rattle.alphabet.specs.declared.kind.AlphabetType.{AlphabetType}
 use Rattle.alphabet.specs.declared.kind.AlphabetType.the-variants.{Dna2bit, Dna3bit, DnaIupac, Protein, Ascii, Unknown}
 use Rattle.alphabet.specs.declared.kind.Name.{Name}
@@ -49,6 +49,10 @@ kindOf number = getD kinds number Unknown
 -- the coding of a known number
 abbrev pub numbered : ℕ → Coding
 numbered number = coding (kindOf number)
+
+-- the coding of a known number that texts are packed by, with the caller's choice
+abbrev pub numberedBy : Bool → ℕ → Coding
+numberedBy fold number = codingBy fold (kindOf number)
 
 -- `kind_of_number`
 unfoldable pub namedAt : ℕ → Named

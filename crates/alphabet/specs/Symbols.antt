@@ -1,10 +1,11 @@
--- Symbols and codes. States document 01, "Leaf 1: symbols and codes".
-use Prim.Native.Nat.{ℕ, suc, _^_}
+-- Symbols and codes. States document 01, "Leaf 1: symbols and codes", and the rule of request A1 for one byte.
+use Prim.Native.Nat.{ℕ, suc, _-_, _^_}
 use Prim.Native.Char.{code as ascii}
 use mathlib.Core.Bool.{Bool, true, false, cond, not, _||_, _&&_}
 use mathlib.Core.List.{List, [], _∷_, map}
 use lib.Dec.{eqb, leb, ltb}
-use Rattle.bits.specs.Tables.{at, bytesOf}
+use lib.ListN.{length}
+use Rattle.bits.specs.Tables.{at, tabulate, bytesOf}
 use Rattle.alphabet.specs.declared.kind.AlphabetType.{AlphabetType}
 use Rattle.alphabet.specs.declared.kind.AlphabetType.the-variants.{Dna2bit, Dna3bit, DnaIupac, Protein, Ascii, Unknown}
 
@@ -60,18 +61,15 @@ pub record Coding : Type 0 where
   -- a code's symbol
   pub symbol : ℕ → ℕ
 
--- in a listed alphabet each byte stands for itself, so lowercase letters are no members
-unfoldable pub canon : ℕ → ℕ
-canon v = v
-
--- the alphabet of b bits that follows from a list; codes that the list lacks decode to `unassigned`
+-- the alphabet of b bits that follows from a list: each byte stands for itself, so lowercase letters are no members; codes that the list lacks decode to
+-- `unassigned`
 unfoldable pub listed : ℕ → List (List ℕ) → ℕ → Coding
 listed b pairs unassigned =
     record {
       width = b;
-      canon = canon;
-      member = λ v. among (map symbolOf pairs) (canon v);
-      code = λ v. found symbolOf codeOf 0xff pairs (canon v);
+      canon = λ v. v;
+      member = among (map symbolOf pairs);
+      code = found symbolOf codeOf 0xff pairs;
       symbol = found codeOf symbolOf unassigned pairs;
     }
 
@@ -89,11 +87,55 @@ coding Protein = listed 5 protein (ascii "X")
 coding Ascii = plain
 coding Unknown = plain
 
--- ---- the check of a list, the Rust's `check_symbols`
+-- ---- lowercase on the way in. States request A1: a caller may choose that texts are folded. What guesses and packs goes by the choice; what reads knows none
 
 -- a lowercase letter, 61 to 7A
 abbrev pub lowercase : ℕ → Bool
 lowercase v = leb 0x61 v && leb v 0x7a
+
+-- the uppercase letter of a lowercase one; any other byte is itself
+unfoldable pub upper : ℕ → ℕ
+upper v = cond (lowercase v) (v - 0x20) v
+
+-- what a byte stands for: with folding its uppercase letter, without folding itself
+abbrev pub canon : Bool → ℕ → ℕ
+canon true v = upper v
+canon false v = v
+
+-- a text, each byte as what it stands for
+abbrev pub folded : Bool → List ℕ → List ℕ
+folded true text = map upper text
+folded false text = text
+
+-- a table by the bytes' values, each place with the entry of what its byte stands for
+abbrev pub foldedEntries : Bool → List ℕ → List ℕ
+foldedEntries fold entries = tabulate (length entries) (λ v. at entries (canon fold v))
+
+-- the alphabets that fold: the four that are bit-packed
+abbrev pub folds : AlphabetType → Bool
+folds Dna2bit = true
+folds Dna3bit = true
+folds DnaIupac = true
+folds Protein = true
+folds Ascii = false
+folds Unknown = false
+
+-- an alphabet in which each byte has the membership and the code of f of it; what it reads is as before
+abbrev pub through : (ℕ → ℕ) → Coding → Coding
+through f A =
+    record {
+      width = A .width;
+      canon = λ v. A .canon (f v);
+      member = λ v. A .member (f v);
+      code = λ v. A .code (f v);
+      symbol = A .symbol;
+    }
+
+-- the coding that texts are packed by, with the caller's choice
+abbrev pub codingBy : Bool → AlphabetType → Coding
+codingBy fold k = through (canon (fold && folds k)) (coding k)
+
+-- ---- the check of a list, the Rust's `check_symbols`
 
 -- a pair's symbol is a byte and no lowercase letter, and its code fits b bits
 abbrev pub fine : ℕ → List ℕ → Bool

@@ -2,13 +2,14 @@
 use crate::bases::pass_bases;
 use crate::kind::AlphabetType;
 use crate::mask::ALPHABET_ORDER;
-use crate::mask::alphabet_mask;
+use crate::mask::masks_by;
 use crate::refusal::Refusal;
 use bits::place;
 ghost use mathlib.Core.Path.{_≡_};
 ghost use Prim.Native.Nat.{_+_, _≤_, _<_};
 ghost use lib.ListN.{length, drop};
 ghost use Rattle.bits.specs.Tables.{tabulate};
+ghost use Rattle.alphabet.specs.Symbols.{canon, folded};
 ghost use Rattle.alphabet.specs.Guess.{freshGuesser, soundGuesser, maskOf, masked, guesserUpdateAt, guessAt, guessOf};
 ghost use Rattle.alphabet.specs.Answers.{guesserUpdatedReply, guesserUpdateTold, guessedReply, guessTold};
 
@@ -21,9 +22,10 @@ const ASCII_BIT: u8 = 16;
 // How many bytes the outer loop hands to the inner one.
 const GUESS_CHUNK: usize = 4096;
 
-// The guesser's state: bit i of `acc` is set while alphabet i of ALPHABET_ORDER can hold every byte seen.
+// The guesser's state: bit i of `acc` is set while alphabet i of ALPHABET_ORDER can hold every byte seen, by the choice to fold.
 pub struct AlphabetGuesser {
     pub acc: u8,
+    pub fold: bool,
 }
 
 // What `update` answers.
@@ -39,11 +41,14 @@ pub enum Guessed {
 }
 
 impl AlphabetGuesser {
-    // A guesser that has seen nothing.
-    pub fn new() -> Self
-        ensures { λ r. ⌜ r ≡ freshGuesser ⌝ }
+    // A guesser that has seen nothing, with the caller's choice to fold.
+    pub fn new(fold: bool) -> Self
+        ensures { λ r. ⌜ r ≡ freshGuesser fold ⌝ }
     {
-        AlphabetGuesser { acc: ALL_ALPHABETS }
+        AlphabetGuesser {
+            acc: ALL_ALPHABETS,
+            fold,
+        }
     }
 
     // Question 4: is the mask 16 to 31?
@@ -65,8 +70,10 @@ impl AlphabetGuesser {
         if acc == ASCII_BIT {
             return GuesserUpdated::Next(self);
         }
+        let fold = self.fold;
         GuesserUpdated::Next(AlphabetGuesser {
-            acc: scan(acc, sequence),
+            acc: scan(acc, fold, sequence),
+            fold,
         })
     }
 
@@ -84,10 +91,10 @@ impl AlphabetGuesser {
     }
 }
 
-// A mask once those of eight bytes, from byte i on, are ANDed to it.
-fn after_eight(masks: &[u8; 256], acc: u8, text: &[u8], i: usize) -> u8
-    requires { ⌜ (now masks ≡ tabulate 256 maskOf) × (i + 8 ≤ length (now text)) ⌝ }
-    ensures { λ r. ⌜ masked r (drop (i + 8) (now (text .entry))) ≡ masked acc (drop i (now (text .entry))) ⌝ }
+// A mask once those of eight bytes, from byte i on, are ANDed to it. The table has for each byte the mask of what it stands for.
+fn after_eight(masks: &[u8; 256], fold: bool, acc: u8, text: &[u8], i: usize) -> u8
+    requires { ⌜ (now masks ≡ tabulate 256 (λ v. maskOf (canon fold v))) × (i + 8 ≤ length (now text)) ⌝ }
+    ensures { λ r. ⌜ masked r (drop (i + 8) (folded fold (now (text .entry)))) ≡ masked acc (drop i (folded fold (now (text .entry)))) ⌝ }
 {
     let mut m = acc;
     for j in 0..8 {
@@ -97,13 +104,20 @@ fn after_eight(masks: &[u8; 256], acc: u8, text: &[u8], i: usize) -> u8
 }
 
 // Passes bytes that leave a mask as it is, eight at a time, and stops no later than `end`.
-fn pass_eights(masks: &[u8; 256], acc: u8, text: &[u8], start: usize, end: usize) -> usize
-    requires { ⌜ (now masks ≡ tabulate 256 maskOf) × ((start ≤ end) × (end ≤ length (now text))) ⌝ }
-    ensures { λ r. ⌜ ((start ≤ r) × (r ≤ end)) × (masked acc (drop r (now (text .entry))) ≡ masked acc (drop start (now (text .entry)))) ⌝ }
+fn pass_eights(
+    masks: &[u8; 256],
+    fold: bool,
+    acc: u8,
+    text: &[u8],
+    start: usize,
+    end: usize,
+) -> usize
+    requires { ⌜ (now masks ≡ tabulate 256 (λ v. maskOf (canon fold v))) × ((start ≤ end) × (end ≤ length (now text))) ⌝ }
+    ensures { λ r. ⌜ ((start ≤ r) × (r ≤ end)) × (masked acc (drop r (folded fold (now (text .entry)))) ≡ masked acc (drop start (folded fold (now (text .entry))))) ⌝ }
 {
     let mut i = start;
     while 8 <= end - i {
-        if after_eight(masks, acc, text, i) != acc {
+        if after_eight(masks, fold, acc, text, i) != acc {
             return i;
         }
         i += 8;
@@ -112,12 +126,19 @@ fn pass_eights(masks: &[u8; 256], acc: u8, text: &[u8], start: usize, end: usize
 }
 
 // The same, where bases are passed first, 64 at a time: they leave every mask as it is.
-fn pass_alike(masks: &[u8; 256], acc: u8, text: &[u8], start: usize, end: usize) -> usize
-    requires { ⌜ ((now masks ≡ tabulate 256 maskOf) × ((start ≤ end) × (end ≤ length (now text)))) × (acc ≤ 31) ⌝ }
-    ensures { λ r. ⌜ ((start ≤ r) × (r ≤ end)) × (masked acc (drop r (now (text .entry))) ≡ masked acc (drop start (now (text .entry)))) ⌝ }
+fn pass_alike(
+    masks: &[u8; 256],
+    fold: bool,
+    acc: u8,
+    text: &[u8],
+    start: usize,
+    end: usize,
+) -> usize
+    requires { ⌜ ((now masks ≡ tabulate 256 (λ v. maskOf (canon fold v))) × ((start ≤ end) × (end ≤ length (now text)))) × (acc ≤ 31) ⌝ }
+    ensures { λ r. ⌜ ((start ≤ r) × (r ≤ end)) × (masked acc (drop r (folded fold (now (text .entry)))) ≡ masked acc (drop start (folded fold (now (text .entry))))) ⌝ }
 {
-    let bases = pass_bases(text, start, end);
-    pass_eights(masks, acc, text, bases, end)
+    let bases = pass_bases(fold, text, start, end);
+    pass_eights(masks, fold, acc, text, bases, end)
 }
 
 // Where the chunk that starts at `at` ends.
@@ -132,16 +153,16 @@ fn chunk_end(at: usize, len: usize) -> usize
 }
 
 // A sound mask once each byte's mask is ANDed to it, up to the byte after which only Ascii remains: no later one changes it.
-fn scan_chunks(mask: u8, sequence: &[u8]) -> u8
+fn scan_chunks(mask: u8, fold: bool, sequence: &[u8]) -> u8
     requires { ⌜ (16 ≤ mask) × (mask ≤ 31) ⌝ }
-    ensures { λ r. ⌜ r ≡ masked mask (now (sequence .entry)) ⌝ }
+    ensures { λ r. ⌜ r ≡ masked mask (folded fold (now (sequence .entry))) ⌝ }
 {
-    let masks = alphabet_mask();
+    let masks = masks_by(fold);
     let mut acc = mask;
     let mut at = 0;
     'scan: while at < sequence.len() {
         let end = chunk_end(at, sequence.len());
-        let start = pass_alike(&masks, acc, sequence, at, end);
+        let start = pass_alike(&masks, fold, acc, sequence, at, end);
         for i in start..end {
             acc = acc & masks[place(sequence[i])];
             if acc == ASCII_BIT {
@@ -154,25 +175,24 @@ fn scan_chunks(mask: u8, sequence: &[u8]) -> u8
 }
 
 // The same. The bases that a text begins with are passed before the table of masks is laid out: most texts, and most pieces, have nothing else.
-fn scan(mask: u8, sequence: &[u8]) -> u8
+fn scan(mask: u8, fold: bool, sequence: &[u8]) -> u8
     requires { ⌜ (16 ≤ mask) × (mask ≤ 31) ⌝ }
-    ensures { λ r. ⌜ r ≡ masked mask (now (sequence .entry)) ⌝ }
+    ensures { λ r. ⌜ r ≡ masked mask (folded fold (now (sequence .entry))) ⌝ }
 {
-    let start = pass_bases(sequence, 0, sequence.len());
+    let start = pass_bases(fold, sequence, 0, sequence.len());
     if sequence.len() <= start {
         return mask;
     }
-    scan_chunks(mask, &sequence[start..])
+    scan_chunks(mask, fold, &sequence[start..])
 }
 
-// The guess for a whole text.
-pub fn guess_alphabet(sequence: &[u8]) -> AlphabetType
-    ensures { λ r. ⌜ r ≡ guessOf (now (sequence .entry)) ⌝ }
+// The guess for a whole text, by the caller's choice to fold: `new`, `update` and `guess` in one. It scans by itself, so that `update` has one caller beyond this
+// crate and may be laid into it: a short text costs less than the handing over of a state.
+pub fn guess_alphabet(fold: bool, sequence: &[u8]) -> AlphabetType
+    ensures { λ r. ⌜ r ≡ guessOf fold (now (sequence .entry)) ⌝ }
 {
-    let GuesserUpdated::Next(next) = AlphabetGuesser::new().update(sequence) else {
-        return AlphabetType::Unknown;
-    };
-    let Guessed::Kind(kind) = next.guess() else {
+    let acc = scan(ALL_ALPHABETS, fold, sequence);
+    let Guessed::Kind(kind) = AlphabetGuesser { acc, fold }.guess() else {
         return AlphabetType::Unknown;
     };
     kind

@@ -1,5 +1,6 @@
 // The alphabets: symbols and codes, names and numbers, and the guess of a text's alphabet.
 mod bases;
+mod fold;
 mod guesser;
 mod kind;
 mod mask;
@@ -7,6 +8,8 @@ mod refusal;
 mod symbols;
 
 pub use bases::pass_bases;
+pub use fold::fold_entries;
+pub use fold::has_effect;
 pub use guesser::AlphabetGuesser;
 pub use guesser::Guessed;
 pub use guesser::GuesserUpdated;
@@ -21,3 +24,4 @@ pub use symbols::INVALID_CODE;
 pub use symbols::contains;
 pub use symbols::decoding_array;
 pub use symbols::encoding_array;
+pub use symbols::takes;

@@ -1,10 +1,12 @@
 // The four symbol lists, and what follows from them: encoding, decoding, membership.
+use crate::fold::has_effect;
+use crate::fold::stands_for;
 use crate::kind::AlphabetType;
 use bits::place;
 ghost use mathlib.Core.Path.{_≡_};
 ghost use mathlib.Core.List.{map};
 ghost use Rattle.bits.specs.Tables.{tabulate};
-ghost use Rattle.alphabet.specs.Symbols.{symbolOf, codeOf, found, among, coding};
+ghost use Rattle.alphabet.specs.Symbols.{symbolOf, codeOf, found, among, coding, codingBy};
 
 // The encoding table's entry for a byte that is no member.
 pub const INVALID_CODE: u8 = 0xFF;
@@ -180,4 +182,11 @@ pub fn contains(kind: AlphabetType, byte: u8) -> bool
         AlphabetType::Ascii => true,
         AlphabetType::Unknown => true,
     }
+}
+
+// Whether a byte stands for a symbol of the alphabet, by the choice to fold.
+pub fn takes(kind: AlphabetType, fold: bool, byte: u8) -> bool
+    ensures { λ r. ⌜ r ≡ codingBy fold kind .member byte ⌝ }
+{
+    contains(kind, stands_for(has_effect(fold, kind), byte))
 }

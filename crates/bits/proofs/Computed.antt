@@ -18,6 +18,15 @@ pub both : (a b : Bool) → T (a && b) → T a × T b
 both true b t = (tt, t)
 both false b t = absurd t
 
+-- a test beside one that always passes, and beside one that never does
+pub and-true : (a : Bool) → a && true ≡ a
+and-true true = refl
+and-true false = refl
+
+pub and-false : (a : Bool) → a && false ≡ false
+and-false true = refl
+and-false false = refl
+
 -- the test passes at the n numbers from i on
 abbrev pub passes : (ℕ → Bool) → ℕ → ℕ → Bool
 passes f i zero = true

@@ -6,12 +6,14 @@ use Prim.Native.Nat.{ℕ, _≤_, _<_}
 use borrow.Author.Tests.{le-leb, lt-leb, leb-true, eq-eqb, ne-eqb}
 use lib.Dec.{leb, eqb}
 use lib.ListN.{length}
+use Rattle.bits.proofs.Computed.{both-true}
 use Rattle.alphabet.specs.declared.kind.AlphabetType.{AlphabetType}
 use Rattle.alphabet.specs.declared.kind.Named.{Named}
 use Rattle.alphabet.specs.declared.refusal.Refusal.{Refusal}
 use Rattle.alphabet.specs.Questions.{refused, refusalReply, numberIn}
-use Rattle.alphabet.specs.Names.{numberOf, namedAt}
-use Rattle.alphabet.proofs.Calls.{is-refused, named-kind, named-refused}
+use Rattle.alphabet.specs.Names.{numberOf, known, kindOf, namedAt}
+use Rattle.alphabet.specs.Answers.{foldNumber}
+use Rattle.alphabet.proofs.Calls.{is-refused, kind-number, known-number, named-kind, named-refused}
 use Rattle.packing.specs.declared.first.First.{First}
 use Rattle.packing.specs.declared.encoder.SequenceEncoder.{SequenceEncoder}
 use Rattle.packing.specs.declared.encoder.EncoderStarted.{EncoderStarted as Start}
@@ -19,14 +21,15 @@ use Rattle.packing.specs.declared.encoder.Updated.{Updated as Answer}
 use Rattle.packing.specs.declared.encoder.Finalized.{Finalized}
 use Rattle.packing.specs.declared.sequence.Encoded.{Encoded}
 use Rattle.packing.specs.declared.range.Range.{Range as Bytes}
-use Rattle.packing.specs.Encode.{startEncoderAt, updateAt, updateMemory, finalizeAt, finalizeMemory}
-use Rattle.packing.specs.Answers.{encoderStartedReply, encodedReply, finalizedReply, rangeReply}
+use Rattle.packing.specs.Encode.{encodeAt, encodeMemory, startEncoderAt, updateAt, updateMemory, finalizeAt, finalizeMemory}
+use Rattle.packing.specs.Answers.{encodedReply, finalizedReply, rangeReply}
 use Rattle.fantailclock.specs.declared.encoders.State.{State}
 use Rattle.fantailclock.specs.declared.shapes.Encoder.{Encoder}
 use Rattle.fantailclock.specs.declared.shapes.Packed.{Packed}
-use Rattle.fantailclock.specs.Shapes.{range, packed}
-use Rattle.fantailclock.specs.Encoders.{inside, fitting, outsideWith, outside, encoderStarted, stateOf, updatedBy, updatedFrom, encoderUpdated, updateMemoryFrom}
-use Rattle.fantailclock.specs.Encoders.{encoderUpdateMemory, finalizeFrom, finalizeTold, finalizeMemoryFrom, encoderFinalizeMemory}
+use Rattle.fantailclock.specs.Shapes.{range, packed, chosen}
+use Rattle.fantailclock.specs.Encoders.{inside, fitting, outsideWith, outside, echoed, startedBy, encoderStarted, stateOf, updatedBy, updatedFrom, encoderUpdated}
+use Rattle.fantailclock.specs.Encoders.{updateMemoryFrom, encoderUpdateMemory, finalizeFrom, finalizeTold, finalizeMemoryFrom, encoderFinalizeMemory}
+use Rattle.fantailclock.proofs.Told.{fold-fits, fold-chosen}
 
 -- ---- byte ranges and whole texts
 
@@ -38,11 +41,22 @@ range-refused x y q m e f h =
 pub range-bytes : (x y : Bytes) (from to : ℕ) → x ≡ Bytes.Bytes from to → x ≡ y → record { refusal = 0; start = from; end = to } ≡ range (rangeReply y)
 range-bytes x y from to e f = ap (λ (z : Bytes). range (rangeReply z)) (sym e ∙ f)
 
-pub encode-wrote : (x y : Encoded) (count : ℕ) → x ≡ Encoded.Wrote count → x ≡ y → record { refusal = 0; count = count; position = 0; byte = 0 } ≡ packed (encodedReply y)
-encode-wrote x y count e f = ap (λ (z : Encoded). packed (encodedReply z)) (sym e ∙ f)
+module _ (n fold : ℕ) (text memory : List ℕ) (f : Bool) (c : f ≡ chosen fold) where
+  pub encode-memory : (out : List ℕ) → out ≡ encodeMemory n f text memory → out ≡ encodeMemory n (chosen fold) text memory
+  encode-memory out w = w ∙ ap (λ (g : Bool). encodeMemory n g text memory) c
 
-pub encode-refused : (x y : Encoded) (q : Refusal) (r : Packed) → x ≡ Encoded.Refused q → x ≡ y → r ≡ packed (refusalReply q) → r ≡ packed (encodedReply y)
-encode-refused x y q r e f h = h ∙ ap (λ (z : Encoded). packed (encodedReply z)) (sym e ∙ f)
+  module _ (x : Encoded) (h : x ≡ encodeAt n f text (length memory)) where
+    abbrev Told : Packed → Type 0
+    Told r = r ≡ packed (encodedReply (encodeAt n (chosen fold) text (length memory)))
+
+    chosen-answer : x ≡ encodeAt n (chosen fold) text (length memory)
+    chosen-answer = h ∙ ap (λ (g : Bool). encodeAt n g text (length memory)) c
+
+    pub encode-wrote : (count : ℕ) → x ≡ Encoded.Wrote count → Told (record { refusal = 0; count = count; position = 0; byte = 0 })
+    encode-wrote count e = ap (λ (z : Encoded). packed (encodedReply z)) (sym e ∙ chosen-answer)
+
+    pub encode-refused : (q : Refusal) → x ≡ Encoded.Refused q → (r : Packed) → r ≡ packed (refusalReply q) → Told r
+    encode-refused q e r w = w ∙ ap (λ (z : Encoded). packed (encodedReply z)) (sym e ∙ chosen-answer)
 
 -- ---- states
 
@@ -55,24 +69,29 @@ module _ (e : Encoder) where
   unfolding inside
   first-some h = sym (rw (ne-eqb (e .«has_bad») 0 h))
 
-  pub fitting-none : e .«has_bad» ≡ 0 → true ≡ fitting e
+  pub fitting-fold : 1 < e .fold → false ≡ fitting e
   unfolding fitting
-  fitting-none h = sym (rw (eq-eqb (e .«has_bad») 0 h))
+  fitting-fold l = sym (rw (lt-leb (e .fold) 1 l))
 
-  pub fitting-some : (e .«has_bad» ≡ 0 → ⊥) → e .«has_bad» ≡ 1 → leb (e .«bad_byte») 255 ≡ fitting e
+  pub fitting-none : e .fold ≤ 1 → e .«has_bad» ≡ 0 → true ≡ fitting e
   unfolding fitting
-  fitting-some h l = sym (rw (ne-eqb (e .«has_bad») 0 h, eq-eqb (e .«has_bad») 1 l))
+  fitting-none l h = sym (rw (le-leb (e .fold) 1 l, eq-eqb (e .«has_bad») 0 h))
 
-  pub fitting-more : (e .«has_bad» ≡ 0 → ⊥) → (e .«has_bad» ≡ 1 → ⊥) → false ≡ fitting e
+  pub fitting-some : e .fold ≤ 1 → (e .«has_bad» ≡ 0 → ⊥) → e .«has_bad» ≡ 1 → leb (e .«bad_byte») 255 ≡ fitting e
   unfolding fitting
-  fitting-more h l = sym (rw (ne-eqb (e .«has_bad») 0 h, ne-eqb (e .«has_bad») 1 l))
+  fitting-some l h k = sym (rw (le-leb (e .fold) 1 l, ne-eqb (e .«has_bad») 0 h, eq-eqb (e .«has_bad») 1 k))
+
+  pub fitting-more : e .fold ≤ 1 → (e .«has_bad» ≡ 0 → ⊥) → (e .«has_bad» ≡ 1 → ⊥) → false ≡ fitting e
+  unfolding fitting
+  fitting-more l h k = sym (rw (le-leb (e .fold) 1 l, ne-eqb (e .«has_bad») 0 h, ne-eqb (e .«has_bad») 1 k))
 
   pub fitting-byte : fitting e ≡ true → (e .«has_bad» ≡ 0 → ⊥) → e .«bad_byte» ≤ 255
   unfolding fitting
   fitting-byte f h =
       let rest : Bool = eqb (e .«has_bad») 1 && leb (e .«bad_byte») 255 in
+      let bad : eqb (e .«has_bad») 0 || rest ≡ true = both-true (leb (e .fold) 1) (eqb (e .«has_bad») 0 || rest) f .1 in
       leb-true (e .«bad_byte») 255
-      (last (eqb (e .«has_bad») 1) (leb (e .«bad_byte») 255) (sym (ap (λ (b : Bool). b || rest) (ne-eqb (e .«has_bad») 0 h)) ∙ f))
+      (last (eqb (e .«has_bad») 1) (leb (e .«bad_byte») 255) (sym (ap (λ (b : Bool). b || rest) (ne-eqb (e .«has_bad») 0 h)) ∙ bad))
     where
       last : (a b : Bool) → (false || (a && b)) ≡ true → b ≡ true
       last true b q = q
@@ -95,42 +114,70 @@ module _ (e : Encoder) where
     unfolding stateOf
     state-value f h l = sym (rw (named-kind (e .alphabet) k n .0, f, le-leb (e .«pending_bits») 255 h, lt-leb (e .pending) 255 l))
 
-    pub state-fine : fitting e ≡ true → e .«pending_bits» ≤ 255 → e .pending ≤ 255 → (first : First) → first ≡ inside e .first
-        → State.Fits (record { alphabet = k; seen = e .seen; bits = e .«pending_bits»; pending = e .pending; first = first }) ≡ stateOf e
+    -- the state, from its alphabet, its first non-member and its choice
+    abbrev standing : AlphabetType → First → Bool → State
+    standing x y z = State.Fits (record { alphabet = x; seen = e .seen; bits = e .«pending_bits»; pending = e .pending; first = y; fold = z })
+
+    pub state-fine : fitting e ≡ true → e .«pending_bits» ≤ 255 → e .pending ≤ 255 → (first : First) → first ≡ inside e .first → (fold : Bool) → fold ≡ chosen (e .fold)
+        → standing k first fold ≡ stateOf e
     unfolding stateOf inside
-    state-fine f h l first q =
-        ap₂ (λ (x : AlphabetType) (y : First). State.Fits (record { alphabet = x; seen = e .seen; bits = e .«pending_bits»; pending = e .pending; first = y }))
-        (sym (named-kind (e .alphabet) k n .1)) q
+    state-fine f h l first q fold c =
+        ap₂ (λ x y. standing x y fold) (sym (named-kind (e .alphabet) k n .1)) q
+        ∙ ap (standing (kindOf (e .alphabet)) (inside e .first)) c
         ∙ sym (rw (named-kind (e .alphabet) k n .0, f, le-leb (e .«pending_bits») 255 h, le-leb (e .pending) 255 l))
 
-pub outside-none : (s : SequenceEncoder) (m : ℕ) → m ≡ numberOf (s .alphabet) → s .first ≡ First.Nothing
-    → record { alphabet = m; seen = s .seen; «pending_bits» = s .bits; pending = s .pending; «has_bad» = 0; «bad_position» = 0; «bad_byte» = 0 } ≡ outside s
-unfolding outside
-outside-none s m h e =
-    ap (λ (x : ℕ). record { alphabet = x; seen = s .seen; «pending_bits» = s .bits; pending = s .pending; «has_bad» = 0; «bad_position» = 0; «bad_byte» = 0 }) h
-    ∙ sym (ap (outsideWith s) e)
+-- the numbers of a state, from those of its alphabet, of its first non-member and of its choice
+module _ (s : SequenceEncoder) (m : ℕ) (a : m ≡ numberOf (s .alphabet)) (n : ℕ) (c : n ≡ foldNumber (s .fold)) where
+  abbrev made : ℕ → ℕ → ℕ → ℕ → ℕ → Encoder
+  made x y has position byte =
+      record { alphabet = x; seen = s .seen; «pending_bits» = s .bits; pending = s .pending; «has_bad» = has; «bad_position» = position; «bad_byte» = byte; fold = y }
 
-pub outside-some : (s : SequenceEncoder) (m position byte : ℕ) → m ≡ numberOf (s .alphabet) → s .first ≡ First.At position byte
-    → record { alphabet = m; seen = s .seen; «pending_bits» = s .bits; pending = s .pending; «has_bad» = 1; «bad_position» = position; «bad_byte» = byte } ≡ outside s
-unfolding outside
-outside-some s m position byte h e =
-    ap (λ (x : ℕ). record { alphabet = x; seen = s .seen; «pending_bits» = s .bits; pending = s .pending; «has_bad» = 1; «bad_position» = position; «bad_byte» = byte }) h
-    ∙ sym (ap (outsideWith s) e)
+  pub outside-none : s .first ≡ First.Nothing → made m n 0 0 0 ≡ outside s
+  unfolding outside
+  outside-none e = ap₂ (λ x y. made x y 0 0 0) a c ∙ sym (ap (outsideWith s) e)
+
+  pub outside-some : (position byte : ℕ) → s .first ≡ First.At position byte → made m n 1 position byte ≡ outside s
+  unfolding outside
+  outside-some position byte e = ap₂ (λ x y. made x y 1 position byte) a c ∙ sym (ap (outsideWith s) e)
+
+-- a first non-member is a byte
+abbrev pub ByteIn : First → Type 0
+ByteIn First.Nothing = Unit {0}
+ByteIn (First.At position byte) = byte ≤ 255
+
+-- these numbers stand for that state, so that its choice stays from call to call
+module _ (s : SequenceEncoder) (h : s .bits ≤ 255) (l : s .pending ≤ 255) where
+  abbrev seeing : First → SequenceEncoder
+  seeing first = record { alphabet = s .alphabet; seen = s .seen; bits = s .bits; pending = s .pending; first = first; fold = s .fold }
+
+  again : (first : First) → ByteIn first → stateOf (outside (seeing first)) ≡ State.Fits (seeing first)
+  unfolding stateOf inside outside fitting
+  again First.Nothing b =
+      rw (known-number (s .alphabet), kind-number (s .alphabet), le-leb (s .bits) 255 h, le-leb (s .pending) 255 l, fold-fits (s .fold), fold-chosen (s .fold))
+  again (First.At position byte) b =
+      rw
+      (known-number (s .alphabet), kind-number (s .alphabet), le-leb (s .bits) 255 h, le-leb (s .pending) 255 l, fold-fits (s .fold), fold-chosen (s .fold), le-leb byte 255 b)
+
+  pub stands-again : ByteIn (s .first) → stateOf (outside s) ≡ State.Fits s
+  stands-again = again (s .first)
 
 -- ---- calls
 
-abbrev pub zeros : ℕ → Encoder
-zeros n = record { alphabet = n; seen = 0; «pending_bits» = 0; pending = 0; «has_bad» = 0; «bad_position» = 0; «bad_byte» = 0 }
+module _ (n fold : ℕ) (f : Bool) (c : f ≡ chosen fold) (x : Start) (h : x ≡ startEncoderAt n f) where
+  pub start-fresh : (s : SequenceEncoder) → x ≡ Start.Fresh s → (e : Encoder) → e ≡ outside s → record { refusal = 0; next = e } ≡ encoderStarted n fold
+  unfolding encoderStarted
+  start-fresh s q e o =
+      ap (λ (y : Encoder). record { refusal = 0; next = y }) o ∙ ap (startedBy n fold) (sym q ∙ h ∙ ap (startEncoderAt n) c)
 
-pub start-fresh : (n : ℕ) (x : Start) (s : SequenceEncoder) → x ≡ Start.Fresh s → x ≡ startEncoderAt n → record { refusal = 0; next = zeros n } ≡ encoderStarted n
-unfolding encoderStarted
-start-fresh n x s e f = ap (λ (y : Start). record { refusal = numberIn (encoderStartedReply y); next = zeros n }) (sym e ∙ f)
+  pub start-refused : (q : Refusal) (m : ℕ) → x ≡ Start.Refused q → m ≡ numberIn (refusalReply q) → record { refusal = m; next = echoed n fold } ≡ encoderStarted n fold
+  unfolding encoderStarted
+  start-refused q m e o =
+      ap (λ (y : ℕ). record { refusal = y; next = echoed n fold }) o ∙ ap (startedBy n fold) (sym e ∙ h ∙ ap (startEncoderAt n) c)
 
-pub start-refused : (n : ℕ) (x : Start) (q : Refusal) (m : ℕ) → x ≡ Start.Refused q → x ≡ startEncoderAt n → m ≡ numberIn (refusalReply q)
-    → record { refusal = m; next = zeros n } ≡ encoderStarted n
-unfolding encoderStarted
-start-refused n x q m e f h =
-    ap (λ (y : ℕ). record { refusal = y; next = zeros n }) h ∙ ap (λ (y : Start). record { refusal = numberIn (encoderStartedReply y); next = zeros n }) (sym e ∙ f)
+-- a refused start's echo is refused again
+pub echo-refused : (n fold : ℕ) → known n ≡ false → stateOf (echoed n fold) ≡ State.Refused 8
+unfolding stateOf
+echo-refused n fold h = rw h
 
 module _ (e : Encoder) (piece memory : List ℕ) where
   pub update-no : (m : ℕ) → State.Refused m ≡ stateOf e

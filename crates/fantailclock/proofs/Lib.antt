@@ -3,3 +3,4 @@ pub mod Front
 pub mod Hosted
 pub mod Flowing
 pub mod OwnNo
+pub mod Unfolded

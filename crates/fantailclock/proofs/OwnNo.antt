@@ -9,14 +9,16 @@ use lib.Dec.{leb, ltb, eqb}
 use lib.ListN.{length}
 use Rattle.bits.specs.Packing.{bytesFor}
 use Rattle.alphabet.specs.Questions.{ask_else_then_, numberIn, inBounds}
-use Rattle.alphabet.specs.Names.{known, numbered, namedAt}
-use Rattle.alphabet.specs.Guess.{soundGuesser}
-use Rattle.alphabet.specs.Answers.{namedReply, guesserUpdateTold, guessTold}
+use Rattle.alphabet.specs.Names.{known, numbered, numberedBy, namedAt}
+use Rattle.alphabet.specs.Guess.{soundGuesser, guesserUpdateAt}
+use Rattle.alphabet.specs.Answers.{namedReply, guesserUpdatedReply, guesserUpdateTold, guessTold}
 use Rattle.alphabet.specs.declared.guesser.AlphabetGuesser.{AlphabetGuesser}
-use Rattle.alphabet.proofs.Calls.{named-told}
+use Rattle.alphabet.specs.declared.guesser.GuesserUpdated.{GuesserUpdated}
+use Rattle.alphabet.proofs.Calls.{named-told, update-told, guess-told}
 use Rattle.packing.specs.declared.first.First.{First}
 use Rattle.packing.specs.declared.encoder.SequenceEncoder.{SequenceEncoder}
 use Rattle.packing.specs.Encode.{firstFrom, unlessBad, soundEncoder, pieceBitCount, startEncoderAt, encodeAt, updateAt, finalizeAt}
+use Rattle.packing.specs.declared.encoder.EncoderStarted.{EncoderStarted}
 use Rattle.packing.specs.declared.encoder.Updated.{Updated}
 use Rattle.packing.specs.declared.encoder.Finalized.{Finalized}
 use Rattle.packing.specs.declared.sequence.Encoded.{Encoded}
@@ -36,6 +38,17 @@ use Rattle.streaming.specs.Stream.{startStreamAt, streamAt, movedBy, moved, tak
 use Rattle.streaming.specs.Answers.{streamStartedReply, streamedReply, endedReply}
 use Rattle.fantailclock.specs.Asked.{Asked, firstNo, clean, askedOfGuesser, askedOfAlphabet, askedOfText, askedOfPiece, askedOfEnd, askedOfRange}
 use Rattle.fantailclock.specs.Asked.{askedOfRead, askedOfCovered, askedOfStart, askedOfStream, askedOfStreamEnd}
+use Rattle.fantailclock.specs.Asked.{askedOfGuesserNumbers, askedOfEncoderNumbers, askedOfStreamNumbers}
+use Rattle.fantailclock.specs.declared.shapes.Guesser.{Guesser}
+use Rattle.fantailclock.specs.declared.shapes.Encoder.{Encoder}
+use Rattle.fantailclock.specs.declared.shapes.Stream.{Stream}
+use Rattle.fantailclock.specs.declared.guesses.State.{State as GuesserState}
+use Rattle.fantailclock.specs.declared.encoders.State.{State as EncoderState}
+use Rattle.fantailclock.specs.declared.streams.State.{State as StreamState}
+use Rattle.fantailclock.specs.Shapes.{chosen}
+use Rattle.fantailclock.specs.Guesses as guesses
+use Rattle.fantailclock.specs.Encoders as encoders
+use Rattle.fantailclock.specs.Streams as streams
 
 -- what an answer tells where a question decides it
 asked : {A : Type 0} (tell : A → ℕ) (b : Bool) (no-answer rest : A) {n m : ℕ} → tell no-answer ≡ n → tell rest ≡ m → tell (ask b else no-answer then rest) ≡ cond b m n
@@ -64,17 +77,17 @@ named-number n = ap numberIn (named-told n) ∙ asked numberIn (known n) _ _ ref
 
 -- ---- packing
 
-pub start-number : (n : ℕ) → numberIn (encoderStartedReply (startEncoderAt n)) ≡ firstNo (askedOfAlphabet n)
+pub start-number : (n : ℕ) (fold : Bool) → numberIn (encoderStartedReply (startEncoderAt n fold)) ≡ firstNo (askedOfAlphabet n)
 unfolding firstNo askedOfAlphabet startEncoderAt
-start-number n = asked (λ x. numberIn (encoderStartedReply x)) (known n) _ _ refl refl
+start-number n fold = asked (λ x. numberIn (encoderStartedReply x)) (known n) _ _ refl refl
 
-pub encode-number : (n : ℕ) (text : List ℕ) (room : ℕ) → numberIn (encodedReply (encodeAt n text room)) ≡ firstNo (askedOfText n text room)
+pub encode-number : (n : ℕ) (fold : Bool) (text : List ℕ) (room : ℕ) → numberIn (encodedReply (encodeAt n fold text room)) ≡ firstNo (askedOfText n fold text room)
 unfolding firstNo askedOfText encodeAt
-encode-number n text room =
+encode-number n fold text room =
     let tell : Encoded → ℕ = λ x. numberIn (encodedReply x) in
     asked tell (known n) _ _ refl
     (asked tell (inBounds (length text)) _ _ refl (asked tell (leb (bytesFor (length text * numbered n .width)) room) _ _ refl
-    (members tell (firstFrom (numbered n) 0 text) _ _ (λ position byte. refl) refl)))
+    (members tell (firstFrom (numberedBy fold n) 0 text) _ _ (λ position byte. refl) refl)))
 
 pub update-number : (s : SequenceEncoder) (piece : List ℕ) (room : ℕ) → numberIn (updatedReply (updateAt s piece room)) ≡ firstNo (askedOfPiece s piece room)
 unfolding firstNo askedOfPiece updateAt
@@ -161,3 +174,82 @@ no-memory-full s source e f h =
     rw (e, f)
     (ap (movedBy s source 0) bases
     ∙ ap (λ (x : Status). Streamed.Moved (takes s 0) 0 x (moved s source 0)) (status-full (s .budget - 0) (0 - 0) (omega arith) (omega arith)))
+
+-- ---- where hosts call: the numbers of a state are asked first, then what its call asks of the state
+
+module _ (g : Guesser) where
+  guesser-asked : (tell : GuesserState → ℕ) (others : List Asked) → ((m : ℕ) → tell (GuesserState.Refused m) ≡ m) → tell (GuesserState.Fits (guesses.inside g)) ≡ firstNo others
+      → tell (guesses.stateOf g) ≡ firstNo (askedOfGuesserNumbers g others)
+  unfolding firstNo askedOfGuesserNumbers guesses.stateOf
+  guesser-asked tell others says h = asked tell (leb (g .mask) 255 && leb (g .fold) 1) _ _ (says 1) h
+
+  pub hosted-guesser-number : (text : List ℕ) → guesses.guesserUpdated g text .refusal ≡ firstNo (askedOfGuesserNumbers g (askedOfGuesser (guesses.inside g)))
+  unfolding guesses.guesserUpdated
+  hosted-guesser-number text =
+      let s : AlphabetGuesser = guesses.inside g in
+      guesser-asked (λ x. guesses.updatedFrom g text x .refusal) _ (λ m. refl)
+      (same (guesserUpdateAt s text) ∙ ap numberIn (update-told s text) ∙ guesser-number s text)
+    where
+      same : (u : GuesserUpdated) → guesses.updatedBy g u .refusal ≡ numberIn (guesserUpdatedReply u)
+      same (GuesserUpdated.Next s) = refl
+      same (GuesserUpdated.Refused q s) = refl
+
+  pub hosted-guess-number : numberIn (guesses.guesserTold g) ≡ firstNo (askedOfGuesserNumbers g (askedOfGuesser (guesses.inside g)))
+  unfolding guesses.guesserTold
+  hosted-guess-number =
+      guesser-asked (λ x. numberIn (guesses.guessFrom x)) _ (λ m. refl) (ap numberIn (guess-told (guesses.inside g)) ∙ guess-number (guesses.inside g))
+
+pub hosted-start-number : (n fold : ℕ) → encoders.encoderStarted n fold .refusal ≡ firstNo (askedOfAlphabet n)
+unfolding encoders.encoderStarted
+hosted-start-number n fold = same (startEncoderAt n (chosen fold)) ∙ start-number n (chosen fold)
+  where
+    same : (x : EncoderStarted) → encoders.startedBy n fold x .refusal ≡ numberIn (encoderStartedReply x)
+    same (EncoderStarted.Fresh s) = refl
+    same (EncoderStarted.Refused q) = refl
+
+module _ (e : Encoder) where
+  encoder-asked : (tell : EncoderState → ℕ) (others : List Asked) → ((m : ℕ) → tell (EncoderState.Refused m) ≡ m) → tell (EncoderState.Fits (encoders.inside e)) ≡ firstNo others
+      → tell (encoders.stateOf e) ≡ firstNo (askedOfEncoderNumbers e others)
+  unfolding firstNo askedOfEncoderNumbers encoders.stateOf
+  encoder-asked tell others says h =
+      asked tell (known (e .alphabet)) _ _ (says 8)
+      (asked tell (encoders.fitting e) _ _ (says 1) (asked tell (leb (e .«pending_bits») 255 && leb (e .pending) 255) _ _ (says 1) h))
+
+  pub hosted-update-number : (piece : List ℕ) (room : ℕ)
+      → encoders.encoderUpdated e piece room .refusal ≡ firstNo (askedOfEncoderNumbers e (askedOfPiece (encoders.inside e) piece room))
+  unfolding encoders.encoderUpdated
+  hosted-update-number piece room =
+      let s : SequenceEncoder = encoders.inside e in
+      encoder-asked (λ x. encoders.updatedFrom e piece room x .refusal) _ (λ m. refl) (same (updateAt s piece room) ∙ update-number s piece room)
+    where
+      same : (x : Updated) → encoders.updatedBy e x .refusal ≡ numberIn (updatedReply x)
+      same (Updated.Wrote count s) = refl
+      same (Updated.Refused q s) = refl
+
+  pub hosted-finalize-number : (room : ℕ) → numberIn (encoders.finalizeTold e room) ≡ firstNo (askedOfEncoderNumbers e (askedOfEnd (encoders.inside e) room))
+  unfolding encoders.finalizeTold
+  hosted-finalize-number room =
+      encoder-asked (λ x. numberIn (encoders.finalizeFrom room x)) _ (λ m. refl) (finalize-number (encoders.inside e) room)
+
+module _ (s : Stream) where
+  stream-asked : (tell : StreamState → ℕ) (others : List Asked) → ((m : ℕ) → tell (StreamState.Refused m) ≡ m) → tell (StreamState.Fits (streams.inside s)) ≡ firstNo others
+      → tell (streams.stateOf s) ≡ firstNo (askedOfStreamNumbers s others)
+  unfolding firstNo askedOfStreamNumbers streams.stateOf
+  stream-asked tell others says h =
+      asked tell (known (s .alphabet)) _ _ (says 8)
+      (asked tell (leb (s .skip) 255 && leb (s .«pending_bits») 255 && leb (s .pending) 255) _ _ (says 1) h)
+
+  pub hosted-stream-number : (source : List ℕ) (room : ℕ)
+      → streams.streamed s source room .refusal ≡ firstNo (askedOfStreamNumbers s (askedOfStream (streams.inside s)))
+  unfolding streams.streamed
+  hosted-stream-number source room =
+      let d : StreamingDecoder = streams.inside s in
+      stream-asked (λ x. streams.streamedFrom s source room x .refusal) _ (λ m. refl) (same (streamAt d source room) ∙ stream-number d source room)
+    where
+      same : (x : Streamed) → streams.streamedBy s x .refusal ≡ numberIn (streamedReply x)
+      same (Streamed.Moved taken written status next) = refl
+      same (Streamed.Refused q next) = refl
+
+  pub hosted-end-number : numberIn (streams.endTold s) ≡ firstNo (askedOfStreamNumbers s (askedOfStreamEnd (streams.inside s)))
+  unfolding streams.endTold
+  hosted-end-number = stream-asked (λ x. numberIn (streams.endFrom x)) _ (λ m. refl) (stream-end-number (streams.inside s))

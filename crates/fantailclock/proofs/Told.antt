@@ -1,18 +1,19 @@
 -- What a reply is as numbers, for each case of an answer.
 use mathlib.Core.Path.{_≡_, refl, sym, ap, _∙_}
-use mathlib.Core.Bool.{Bool, true, false, cond}
+use mathlib.Core.Bool.{Bool, true, false, cond, _&&_}
 use mathlib.Core.List.{List}
-use Prim.Native.Nat.{ℕ, _≤_, _<_}
+use Prim.Native.Nat.{ℕ, zero, suc, _≤_, _<_}
 use native.Mathlib.Omega.{arith}
-use borrow.Author.Tests.{le-leb, lt-leb}
+use borrow.Author.Tests.{le-leb, lt-leb, leb-true}
 use lib.Dec.{leb}
 use lib.ListN.{length, take}
 use Rattle.bits.specs.Memory.{front}
-use Rattle.alphabet.specs.Questions.{Reply, accepted, refusalReply, numberIn, valueIn}
+use Rattle.bits.proofs.Computed.{both-true}
+use Rattle.alphabet.specs.Questions.{ask_else_then_, refusalReply, numberIn, valueIn}
 use Rattle.alphabet.specs.Symbols.{coding}
 use Rattle.alphabet.specs.Names.{displayName, nameOf, numberOf, namedAt}
-use Rattle.alphabet.specs.Guess.{soundGuesser}
-use Rattle.alphabet.specs.Answers.{guesserUpdatedReply, guesserUpdateTold, guessedReply, guessTold}
+use Rattle.alphabet.specs.Guess.{soundGuesser, guesserUpdateAt, guessAt}
+use Rattle.alphabet.specs.Answers.{foldNumber, guessedReply}
 use Rattle.alphabet.specs.declared.kind.AlphabetType.{AlphabetType}
 use Rattle.alphabet.specs.declared.kind.Name.{Name}
 use Rattle.alphabet.specs.declared.kind.Named.{Named}
@@ -21,10 +22,12 @@ use Rattle.alphabet.specs.declared.guesser.AlphabetGuesser.{AlphabetGuesser}
 use Rattle.alphabet.specs.declared.guesser.GuesserUpdated.{GuesserUpdated}
 use Rattle.alphabet.specs.declared.guesser.Guessed.{Guessed}
 use Rattle.alphabet.proofs.Laws.{lawful}
-use Rattle.alphabet.proofs.Calls.{is-refused, spelt, named-kind, named-refused, sound-range}
+use Rattle.alphabet.proofs.Calls.{is-refused, spelt, named-kind, named-refused, sound-range, update-sound, update-unsound, next-only, next-same}
+use Rattle.fantailclock.specs.declared.guesses.State.{State}
 use Rattle.fantailclock.specs.declared.shapes.Guesser.{Guesser}
-use Rattle.fantailclock.specs.Shapes.{number, count, guesser, guessing}
+use Rattle.fantailclock.specs.Shapes.{number, count, chosen}
 use Rattle.fantailclock.specs.Kinds.{bitsTold, containsTold, nameTold, nameMemory}
+use Rattle.fantailclock.specs.Guesses.{inside, outside, stateOf, updatedBy, updatedFrom, guesserUpdated, guessFrom, guesserTold}
 
 -- a refusal has no value of an accepted call
 pub no-value : (q : Refusal) → 0 ≡ valueIn 0 (refusalReply q)
@@ -51,7 +54,7 @@ module _ (n : ℕ) where
   contains-none k v e h = contains-known k v false e (go (coding k .member v) refl)
     where
       go : (b : Bool) → coding k .member v ≡ b → false ≡ b
-      go true m = absurd (omega (arith, lawful k .byte v m))
+      go true m = absurd (omega (arith, lawful false k .byte v m))
       go false m = refl
 
   -- a name that the memory cannot hold, and one that it can
@@ -80,7 +83,8 @@ module _ (n : ℕ) where
       let s = named-refused n q e in
       rw (s .0) (ap (λ (x : ℕ). record { refusal = x; value = 0 }) (f ∙ ap (λ (x : Refusal). numberIn (refusalReply x)) (s .1)))
 
-  pub contains-refused : (v : ℕ) (q : Refusal) (m : ℕ) → namedAt n ≡ Named.Refused q → m ≡ numberIn (refusalReply q) → record { refusal = m; value = 0 } ≡ number (containsTold n v)
+  pub contains-refused : (v : ℕ) (q : Refusal) (m : ℕ) → namedAt n ≡ Named.Refused q → m ≡ numberIn (refusalReply q)
+      → record { refusal = m; value = 0 } ≡ number (containsTold n v)
   unfolding containsTold
   contains-refused v q m e f =
       let s = named-refused n q e in
@@ -95,34 +99,103 @@ module _ (n : ℕ) where
 
 -- ---- the guesser
 
--- a mask above 255 is not sound
-big-unsound : (g : AlphabetGuesser) → 255 < g .acc → soundGuesser g ≡ false
-big-unsound g h = go (soundGuesser g) refl
+-- the number of a choice in a state is 0 or 1, and stands for that choice
+pub fold-fits : (f : Bool) → leb (foldNumber f) 1 ≡ true
+fold-fits true = refl
+fold-fits false = refl
+
+pub fold-chosen : (f : Bool) → chosen (foldNumber f) ≡ f
+fold-chosen true = refl
+fold-chosen false = refl
+
+chosen-number : (n : ℕ) → n ≤ 1 → n ≡ foldNumber (chosen n)
+chosen-number zero h = refl
+chosen-number (suc zero) h = refl
+chosen-number (suc (suc n)) h = absurd (omega arith)
+
+-- an update keeps the choice
+kept : (s s′ : AlphabetGuesser) (text : List ℕ) (u : GuesserUpdated) → u ≡ GuesserUpdated.Next s′ → u ≡ guesserUpdateAt s text → s′ .fold ≡ s .fold
+kept s s′ text u e f = go (soundGuesser s) refl
   where
-    go : (b : Bool) → soundGuesser g ≡ b → b ≡ false
-    go true e = absurd (omega (arith, sound-range g e .1))
+    go : (b : Bool) → soundGuesser s ≡ b → s′ .fold ≡ s .fold
+    go true h = ap (λ (x : AlphabetGuesser). x .fold) (next-same e (f ∙ update-sound s text h))
+    go false h = absurd (next-only e (f ∙ update-unsound s text h))
+
+module _ (g : Guesser) where
+  pub state-mask : 255 < g .mask → State.Refused 1 ≡ stateOf g
+  unfolding stateOf
+  state-mask h = sym (rw (lt-leb (g .mask) 255 h))
+
+  pub state-fold : g .mask ≤ 255 → 1 < g .fold → State.Refused 1 ≡ stateOf g
+  unfolding stateOf
+  state-fold h l = sym (rw (le-leb (g .mask) 255 h, lt-leb (g .fold) 1 l))
+
+  pub state-fine : g .mask ≤ 255 → g .fold ≤ 1 → (fold : Bool) → fold ≡ chosen (g .fold) → State.Fits (record { acc = g .mask; fold = fold }) ≡ stateOf g
+  unfolding stateOf inside
+  state-fine h l fold e =
+      ap (λ (x : Bool). State.Fits (record { acc = g .mask; fold = x })) e ∙ sym (rw (le-leb (g .mask) 255 h, le-leb (g .fold) 1 l))
+
+  pub update-no : (text : List ℕ) (m : ℕ) → State.Refused m ≡ stateOf g → record { refusal = m; next = g } ≡ guesserUpdated g text
+  unfolding guesserUpdated
+  update-no text m q = ap (updatedFrom g text) q
+
+  pub guess-no : (m : ℕ) → State.Refused m ≡ stateOf g → record { refusal = m; value = 0 } ≡ number (guesserTold g)
+  unfolding guesserTold
+  guess-no m q = ap (λ (x : State). number (guessFrom x)) q
+
+  module _ (s : AlphabetGuesser) (q : State.Fits s ≡ stateOf g) where
+    -- the number of the state's choice is the one that came
+    same-number : g .fold ≡ foldNumber (s .fold)
+    unfolding stateOf inside
+    same-number = go (leb (g .mask) 255 && leb (g .fold) 1) refl q
+      where
+        go : (b : Bool) → leb (g .mask) 255 && leb (g .fold) 1 ≡ b → State.Fits s ≡ (ask b else State.Refused 1 then State.Fits (inside g)) → g .fold ≡ foldNumber (s .fold)
+        go true e r =
+            let same : s ≡ inside g = cc in
+            let fits : g .fold ≤ 1 = leb-true (g .fold) 1 (both-true (leb (g .mask) 255) (leb (g .fold) 1) e .1) in
+            chosen-number (g .fold) fits ∙ ap (λ (x : AlphabetGuesser). foldNumber (x .fold)) (sym same)
+        go false e r = absurd (let z : _≡_ {A = ℕ} 0 1 = cc in omega arith)
+
+    pub update-next : (text : List ℕ) (u : GuesserUpdated) (s′ : AlphabetGuesser) → u ≡ GuesserUpdated.Next s′ → u ≡ guesserUpdateAt s text
+        → record { refusal = 0; next = record { mask = s′ .acc; fold = g .fold } } ≡ guesserUpdated g text
+    unfolding guesserUpdated outside
+    update-next text u s′ e f =
+        let number′ : g .fold ≡ foldNumber (s′ .fold) = same-number ∙ ap foldNumber (sym (kept s s′ text u e f)) in
+        ap (λ (n : ℕ). record { refusal = 0; next = record { mask = s′ .acc; fold = n } }) number′ ∙ ap (updatedBy g) (sym e ∙ f) ∙ ap (updatedFrom g text) q
+
+    pub update-refused : (text : List ℕ) (u : GuesserUpdated) (r : Refusal) (s′ : AlphabetGuesser) → u ≡ GuesserUpdated.Refused r s′ → u ≡ guesserUpdateAt s text
+        → (m : ℕ) → m ≡ numberIn (refusalReply r) → record { refusal = m; next = g } ≡ guesserUpdated g text
+    unfolding guesserUpdated
+    update-refused text u r s′ e f m h =
+        ap (λ (x : ℕ). record { refusal = x; next = g }) h ∙ ap (updatedBy g) (sym e ∙ f) ∙ ap (updatedFrom g text) q
+
+    pub guess-kind : (u : Guessed) (k : AlphabetType) → u ≡ Guessed.Kind k → u ≡ guessAt s → (m : ℕ) → m ≡ numberOf k
+        → record { refusal = 0; value = m } ≡ number (guesserTold g)
+    unfolding guesserTold
+    guess-kind u k e f m h =
+        ap (λ (x : ℕ). record { refusal = 0; value = x }) h
+        ∙ ap (λ (x : Guessed). number (guessedReply x)) (sym e ∙ f)
+        ∙ ap (λ (x : State). number (guessFrom x)) q
+
+    pub guess-refused : (u : Guessed) (r : Refusal) (s′ : AlphabetGuesser) → u ≡ Guessed.Refused r s′ → u ≡ guessAt s → (m : ℕ) → m ≡ numberIn (refusalReply r)
+        → record { refusal = m; value = 0 } ≡ number (guesserTold g)
+    unfolding guesserTold
+    guess-refused u r s′ e f m h =
+        ap (λ (x : ℕ). record { refusal = x; value = 0 }) h
+        ∙ ap number (sym (is-refused r))
+        ∙ ap (λ (x : Guessed). number (guessedReply x)) (sym e ∙ f)
+        ∙ ap (λ (x : State). number (guessFrom x)) q
+
+-- a mask that does not fit its field is unsound in any case
+pub wide-unsound : (g : Guesser) → 255 < g .mask → soundGuesser (inside g) ≡ false
+unfolding inside
+wide-unsound g h = go (soundGuesser (inside g)) refl
+  where
+    go : (b : Bool) → soundGuesser (inside g) ≡ b → b ≡ false
+    go true e = absurd (omega (arith, sound-range (inside g) e .1))
     go false e = refl
 
-pub update-big : (state : Guesser) (text : List ℕ) → 255 < state .mask → record { refusal = 1; next = state } ≡ guessing state (guesserUpdateTold (guesser state) text)
-update-big state text h = rw (big-unsound (guesser state) h)
-
-pub guess-big : (state : Guesser) → 255 < state .mask → record { refusal = 1; value = 0 } ≡ number (guessTold (guesser state))
-guess-big state h = rw (big-unsound (guesser state) h)
-
-module _ (state : Guesser) (reply : Reply) where
-  pub update-next : (u : GuesserUpdated) (g : AlphabetGuesser) → u ≡ GuesserUpdated.Next g → guesserUpdatedReply u ≡ reply
-      → record { refusal = 0; next = record { mask = g .acc } } ≡ guessing state reply
-  update-next u g e f = ap (guessing state) (sym (ap guesserUpdatedReply e) ∙ f)
-
-  pub update-refused : (u : GuesserUpdated) (q : Refusal) (g : AlphabetGuesser) (m : ℕ) → u ≡ GuesserUpdated.Refused q g → guesserUpdatedReply u ≡ reply
-      → m ≡ numberIn (refusalReply q)
-      → record { refusal = m; next = state } ≡ guessing state reply
-  update-refused u q g m e f h =
-      ap (λ (x : ℕ). record { refusal = x; next = state }) h ∙ ap (guessing state) (sym (is-refused q) ∙ sym (ap guesserUpdatedReply e) ∙ f)
-
-  pub guess-kind : (u : Guessed) (k : AlphabetType) (m : ℕ) → u ≡ Guessed.Kind k → guessedReply u ≡ reply → m ≡ numberOf k → record { refusal = 0; value = m } ≡ number reply
-  guess-kind u k m e f h = ap (λ (x : ℕ). record { refusal = 0; value = x }) h ∙ ap number (sym (ap guessedReply e) ∙ f)
-
-  pub guess-refused : (u : Guessed) (q : Refusal) (g : AlphabetGuesser) (m : ℕ) → u ≡ Guessed.Refused q g → guessedReply u ≡ reply → m ≡ numberIn (refusalReply q)
-      → record { refusal = m; value = 0 } ≡ number reply
-  guess-refused u q g m e f h = ap (λ (x : ℕ). record { refusal = x; value = 0 }) h ∙ ap number (sym (is-refused q) ∙ sym (ap guessedReply e) ∙ f)
+-- the numbers of a state stand for that state, so that its choice stays from call to call
+pub stands-again : (s : AlphabetGuesser) → s .acc ≤ 255 → stateOf (outside s) ≡ State.Fits s
+unfolding stateOf inside outside
+stands-again s h = rw (le-leb (s .acc) 255 h, fold-fits (s .fold), fold-chosen (s .fold))

@@ -8,7 +8,7 @@ use lib.ListN.{length}
 use Rattle.bits.specs.Packing.{bytesFor}
 use Rattle.alphabet.specs.Questions.{inBounds}
 use Rattle.alphabet.specs.Symbols.{Coding}
-use Rattle.alphabet.specs.Names.{known, numbered}
+use Rattle.alphabet.specs.Names.{known, numbered, numberedBy}
 use Rattle.alphabet.specs.Guess.{soundGuesser}
 use Rattle.alphabet.specs.declared.guesser.AlphabetGuesser.{AlphabetGuesser}
 use Rattle.packing.specs.declared.first.First.{First}
@@ -17,6 +17,10 @@ use Rattle.packing.specs.Encode.{firstFrom, soundEncoder, pieceBitCount}
 use Rattle.windows.specs.Window.{covers}
 use Rattle.streaming.specs.declared.decoder.StreamingDecoder.{StreamingDecoder}
 use Rattle.streaming.specs.Stream.{soundStream}
+use Rattle.fantailclock.specs.declared.shapes.Guesser.{Guesser}
+use Rattle.fantailclock.specs.declared.shapes.Encoder.{Encoder}
+use Rattle.fantailclock.specs.declared.shapes.Stream.{Stream}
+use Rattle.fantailclock.specs.Encoders.{fitting}
 
 infix 4 _unless_
 -- a question: the number when the answer is no, and the answer
@@ -41,12 +45,12 @@ unfoldable pub askedOfAlphabet : ℕ → List Asked
 askedOfAlphabet alphabet = (8 unless known alphabet) ∷ []
 
 -- 1, 5, 9, 10, of `encode_sequence`
-unfoldable pub askedOfText : ℕ → List ℕ → ℕ → List Asked
-askedOfText alphabet text room =
+unfoldable pub askedOfText : ℕ → Bool → List ℕ → ℕ → List Asked
+askedOfText alphabet fold text room =
     (8 unless known alphabet)
     ∷ (2 unless inBounds (length text))
     ∷ (4 unless leb (bytesFor (length text * numbered alphabet .width)) room)
-    ∷ (5 unless clean (firstFrom (numbered alphabet) 0 text))
+    ∷ (5 unless clean (firstFrom (numberedBy fold alphabet) 0 text))
     ∷ []
 
 -- 4, 5, 9, of `update`
@@ -91,3 +95,19 @@ askedOfStream s = (1 unless soundStream s) ∷ []
 -- 4, 7, of the end call
 unfoldable pub askedOfStreamEnd : StreamingDecoder → List Asked
 askedOfStreamEnd s = (1 unless soundStream s) ∷ (7 unless eqb (s .skip) 0 && eqb (s .budget) 0) ∷ []
+
+-- ---- of a state as a host's numbers, before what its call asks of the state: is its alphabet one, and do the numbers fit their fields?
+
+unfoldable pub askedOfGuesserNumbers : Guesser → List Asked → List Asked
+askedOfGuesserNumbers g others = (1 unless leb (g .mask) 255 && leb (g .fold) 1) ∷ others
+
+unfoldable pub askedOfEncoderNumbers : Encoder → List Asked → List Asked
+askedOfEncoderNumbers e others =
+    (8 unless known (e .alphabet))
+    ∷ (1 unless fitting e)
+    ∷ (1 unless leb (e .«pending_bits») 255 && leb (e .pending) 255)
+    ∷ others
+
+unfoldable pub askedOfStreamNumbers : Stream → List Asked → List Asked
+askedOfStreamNumbers s others =
+    (8 unless known (s .alphabet)) ∷ (1 unless leb (s .skip) 255 && leb (s .«pending_bits») 255 && leb (s .pending) 255) ∷ others

@@ -6,16 +6,19 @@ use lib.Dec.{leb, eqb}
 use lib.ListN.{length}
 use Rattle.alphabet.specs.Questions.{ask_else_then_, Reply, refused, refusalReply, numberIn}
 use Rattle.alphabet.specs.Names.{numberOf, known, kindOf}
+use Rattle.alphabet.specs.Answers.{foldNumber}
 use Rattle.packing.specs.declared.first.First.{First}
 use Rattle.packing.specs.declared.encoder.SequenceEncoder.{SequenceEncoder}
+use Rattle.packing.specs.declared.encoder.EncoderStarted.{EncoderStarted as Start}
 use Rattle.packing.specs.declared.encoder.Updated.the-variants as answer
 use Rattle.packing.specs.declared.encoder.Updated.{Updated as Answer}
 use Rattle.packing.specs.Encode.{startEncoderAt, updateAt, updateMemory, finalizeAt, finalizeMemory}
-use Rattle.packing.specs.Answers.{encoderStartedReply, finalizedReply}
+use Rattle.packing.specs.Answers.{finalizedReply}
 use Rattle.fantailclock.specs.declared.encoders.State.{State}
 use Rattle.fantailclock.specs.declared.shapes.Encoder.{Encoder}
 use Rattle.fantailclock.specs.declared.shapes.EncoderStarted.{EncoderStarted}
 use Rattle.fantailclock.specs.declared.shapes.Updated.{Updated}
+use Rattle.fantailclock.specs.Shapes.{chosen}
 
 -- ---- states
 
@@ -28,31 +31,53 @@ inside e =
       bits = e .«pending_bits»;
       pending = e .pending;
       first = cond (eqb (e .«has_bad») 0) First.Nothing (First.At (e .«bad_position») (e .«bad_byte»));
+      fold = chosen (e .fold);
     }
 
--- `has_bad` is 0 or 1, and a first non-member is a byte
+-- `fold` is 0 or 1, `has_bad` is 0 or 1, and a first non-member is a byte
 unfoldable pub fitting : Encoder → Bool
-fitting e = eqb (e .«has_bad») 0 || (eqb (e .«has_bad») 1 && leb (e .«bad_byte») 255)
+fitting e = leb (e .fold) 1 && (eqb (e .«has_bad») 0 || (eqb (e .«has_bad») 1 && leb (e .«bad_byte») 255))
 
 -- a state as a host's numbers; zeros where there is no first non-member
 abbrev pub outsideWith : SequenceEncoder → First → Encoder
 outsideWith s First.Nothing =
-    record { alphabet = numberOf (s .alphabet); seen = s .seen; «pending_bits» = s .bits; pending = s .pending; «has_bad» = 0; «bad_position» = 0; «bad_byte» = 0 }
+    record {
+      alphabet = numberOf (s .alphabet);
+      seen = s .seen;
+      «pending_bits» = s .bits;
+      pending = s .pending;
+      «has_bad» = 0;
+      «bad_position» = 0;
+      «bad_byte» = 0;
+      fold = foldNumber (s .fold);
+    }
 outsideWith s (First.At position byte) =
-    record { alphabet = numberOf (s .alphabet); seen = s .seen; «pending_bits» = s .bits; pending = s .pending; «has_bad» = 1; «bad_position» = position; «bad_byte» = byte }
+    record {
+      alphabet = numberOf (s .alphabet);
+      seen = s .seen;
+      «pending_bits» = s .bits;
+      pending = s .pending;
+      «has_bad» = 1;
+      «bad_position» = position;
+      «bad_byte» = byte;
+      fold = foldNumber (s .fold);
+    }
 
 unfoldable pub outside : SequenceEncoder → Encoder
 outside s = outsideWith s (s .first)
 
 -- ---- calls
 
--- `fc_encoder_new`: a refused start echoes its argument
-unfoldable pub encoderStarted : ℕ → EncoderStarted
-encoderStarted alphabet =
-    record {
-      refusal = numberIn (encoderStartedReply (startEncoderAt alphabet));
-      next = record { alphabet = alphabet; seen = 0; «pending_bits» = 0; pending = 0; «has_bad» = 0; «bad_position» = 0; «bad_byte» = 0 };
-    }
+-- `fc_encoder_new`: a fresh state, or the arguments as they came with zeros beside them
+abbrev pub echoed : ℕ → ℕ → Encoder
+echoed alphabet fold = record { alphabet = alphabet; seen = 0; «pending_bits» = 0; pending = 0; «has_bad» = 0; «bad_position» = 0; «bad_byte» = 0; fold = fold }
+
+abbrev pub startedBy : ℕ → ℕ → Start → EncoderStarted
+startedBy alphabet fold (Start.Fresh s) = record { refusal = 0; next = outside s }
+startedBy alphabet fold (Start.Refused q) = record { refusal = numberIn (refusalReply q); next = echoed alphabet fold }
+
+unfoldable pub encoderStarted : ℕ → ℕ → EncoderStarted
+encoderStarted alphabet fold = startedBy alphabet fold (startEncoderAt alphabet (chosen fold))
 
 -- the questions that come first, for a state as numbers: its alphabet, and that its fields fit. Pending numbers above 255 are unsound in any case
 unfoldable pub stateOf : Encoder → State

@@ -7,8 +7,7 @@ use lib.ListN.{length}
 use Rattle.bits.specs.Memory.{front}
 use Rattle.alphabet.specs.Questions.{ask_else_then_, Reply, accepted, refused}
 use Rattle.alphabet.specs.Symbols.{Coding}
-use Rattle.alphabet.specs.Names.{displayName, numberOf, known, kindOf, numbered}
-use Rattle.alphabet.specs.Guess.{guessOf}
+use Rattle.alphabet.specs.Names.{displayName, known, kindOf, numbered}
 
 -- the bits per symbol
 unfoldable pub bitsTold : ℕ → Reply
@@ -31,7 +30,3 @@ nameMemory alphabet memory =
     ask known alphabet else memory then
     ask leb (length (displayName (kindOf alphabet))) (length memory) else memory then
     front (displayName (kindOf alphabet)) memory
-
--- the number of the alphabet guessed for a text
-unfoldable pub guessedTold : List ℕ → Reply
-guessedTold text = accepted (numberOf (guessOf text) ∷ [])

@@ -4,8 +4,10 @@ use crate::shapes::EncoderStarted;
 use crate::shapes::Packed;
 use crate::shapes::Range;
 use crate::shapes::Updated;
+use crate::shapes::chosen_by;
 use crate::shapes::details_of;
 use crate::shapes::number_of;
+use crate::shapes::number_of_fold;
 use alphabet::AlphabetType;
 use alphabet::Named;
 use alphabet::Refusal;
@@ -24,7 +26,7 @@ ghost use Rattle.alphabet.specs.Questions.{refusalReply};
 ghost use Rattle.packing.specs.Encode.{encodeAt, encodeMemory};
 ghost use Rattle.packing.specs.Range.{rangeAt};
 ghost use Rattle.packing.specs.Answers.{encodedReply, rangeReply};
-ghost use Rattle.fantailclock.specs.Shapes.{range, packed};
+ghost use Rattle.fantailclock.specs.Shapes.{range, packed, chosen};
 ghost use Rattle.fantailclock.specs.Encoders.{inside, fitting, outside, stateOf, encoderStarted, encoderUpdated, encoderUpdateMemory, finalizeTold, encoderFinalizeMemory};
 
 // A refusal as numbers, with its details.
@@ -61,11 +63,16 @@ pub extern "C" fn fc_byte_range_for_bases(start: u64, end: u64, bits: u64) -> Ra
 
 // A text packed whole.
 #[no_mangle]
-pub extern "C" fn fc_encode_sequence(alphabet: u64, text: &[u8], out: &mut [u8]) -> Packed
-    ensures { λ r. ⌜ r ≡ packed (encodedReply (encodeAt alphabet (now (text .entry)) (length (now (out .entry))))) ⌝ }
-    ensures memory { λ _. ⌜ now (out .exit) ≡ encodeMemory alphabet (now (text .entry)) (now (out .entry)) ⌝ }
+pub extern "C" fn fc_encode_sequence(
+    alphabet: u64,
+    fold: u64,
+    text: &[u8],
+    out: &mut [u8],
+) -> Packed
+    ensures { λ r. ⌜ r ≡ packed (encodedReply (encodeAt alphabet (chosen fold) (now (text .entry)) (length (now (out .entry))))) ⌝ }
+    ensures memory { λ _. ⌜ now (out .exit) ≡ encodeMemory alphabet (chosen fold) (now (text .entry)) (now (out .entry)) ⌝ }
 {
-    match encode_sequence(alphabet, text, out) {
+    match encode_sequence(alphabet, chosen_by(fold), text, out) {
         Encoded::Wrote(count) => Packed {
             refusal: 0,
             count: count as u64,
@@ -85,6 +92,7 @@ fn encoder_of(state: SequenceEncoder) -> Encoder
     let seen = state.seen as u64;
     let pending_bits = state.bits as u64;
     let pending = state.pending as u64;
+    let fold = number_of_fold(state.fold);
     let first = state.first;
     match first {
         First::Nothing => Encoder {
@@ -95,6 +103,7 @@ fn encoder_of(state: SequenceEncoder) -> Encoder
             has_bad: 0,
             bad_position: 0,
             bad_byte: 0,
+            fold,
         },
         First::At { position, byte } => Encoder {
             alphabet,
@@ -104,6 +113,7 @@ fn encoder_of(state: SequenceEncoder) -> Encoder
             has_bad: 1,
             bad_position: position as u64,
             bad_byte: byte as u64,
+            fold,
         },
     }
 }
@@ -129,10 +139,13 @@ fn first_in(state: Encoder) -> First
     }
 }
 
-// Whether `has_bad` is 0 or 1 and a first non-member is a byte.
+// Whether `fold` is 0 or 1, `has_bad` is 0 or 1 and a first non-member is a byte.
 fn is_fitting(state: Encoder) -> bool
     ensures { λ r. ⌜ r ≡ fitting state ⌝ }
 {
+    if 1 < state.fold {
+        return false;
+    }
     if state.has_bad == 0 {
         return true;
     }
@@ -156,34 +169,39 @@ fn state_of(state: Encoder) -> State
         return State::Refused(1);
     }
     let first = first_in(state);
+    let fold = chosen_by(state.fold);
     State::Fits(SequenceEncoder {
         alphabet: kind,
         seen: state.seen as usize,
         bits: state.pending_bits as u8,
         pending: state.pending as u8,
         first,
+        fold,
     })
 }
 
-// An encoder that has seen nothing; a refused start echoes its argument, so that the state is refused again.
+// An encoder that has seen nothing; a refused start echoes its arguments as they came, so that the state is refused again.
 #[no_mangle]
-pub extern "C" fn fc_encoder_new(alphabet: u64) -> EncoderStarted
-    ensures { λ r. ⌜ r ≡ encoderStarted alphabet ⌝ }
+pub extern "C" fn fc_encoder_new(alphabet: u64, fold: u64) -> EncoderStarted
+    ensures { λ r. ⌜ r ≡ encoderStarted alphabet fold ⌝ }
 {
-    let next = Encoder {
-        alphabet,
-        seen: 0,
-        pending_bits: 0,
-        pending: 0,
-        has_bad: 0,
-        bad_position: 0,
-        bad_byte: 0,
-    };
-    match SequenceEncoder::new(alphabet) {
-        packing::EncoderStarted::Fresh(_) => EncoderStarted { refusal: 0, next },
+    match SequenceEncoder::new(alphabet, chosen_by(fold)) {
+        packing::EncoderStarted::Fresh(fresh) => EncoderStarted {
+            refusal: 0,
+            next: encoder_of(fresh),
+        },
         packing::EncoderStarted::Refused(refusal) => EncoderStarted {
             refusal: number_of(refusal),
-            next,
+            next: Encoder {
+                alphabet,
+                seen: 0,
+                pending_bits: 0,
+                pending: 0,
+                has_bad: 0,
+                bad_position: 0,
+                bad_byte: 0,
+                fold,
+            },
         },
     }
 }

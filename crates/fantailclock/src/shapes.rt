@@ -3,7 +3,8 @@
 use alphabet::Refusal;
 ghost use mathlib.Core.Path.{_≡_};
 ghost use Rattle.alphabet.specs.Questions.{refusalReply, numberIn};
-ghost use Rattle.fantailclock.specs.Shapes.{details};
+ghost use Rattle.alphabet.specs.Answers.{foldNumber};
+ghost use Rattle.fantailclock.specs.Shapes.{details, chosen};
 
 #[repr(C)]
 pub struct Number {
@@ -17,9 +18,11 @@ pub struct Count {
     pub count: u64,
 }
 
+// A guesser's state; `fold` is 0 or 1.
 #[repr(C)]
 pub struct Guesser {
     pub mask: u64,
+    pub fold: u64,
 }
 
 #[repr(C)]
@@ -43,7 +46,7 @@ pub struct Packed {
     pub byte: u64,
 }
 
-// An encoder's state; the last two are of no account where `has_bad` is 0.
+// An encoder's state; `bad_position` and `bad_byte` are of no account where `has_bad` is 0, and `fold` is 0 or 1.
 #[repr(C)]
 pub struct Encoder {
     pub alphabet: u64,
@@ -53,6 +56,7 @@ pub struct Encoder {
     pub has_bad: u64,
     pub bad_position: u64,
     pub bad_byte: u64,
+    pub fold: u64,
 }
 
 #[repr(C)]
@@ -106,6 +110,23 @@ pub fn number_of(refusal: Refusal) -> u64
     ensures { λ r. ⌜ r ≡ numberIn (refusalReply refusal) ⌝ }
 {
     refusal.number() as u64
+}
+
+// The choice to fold that an argument stands for: any number but 0 folds.
+pub fn chosen_by(fold: u64) -> bool
+    ensures { λ r. ⌜ r ≡ chosen fold ⌝ }
+{
+    fold != 0
+}
+
+// The number of a choice in a state: 1 to fold, 0 not to.
+pub fn number_of_fold(fold: bool) -> u64
+    ensures { λ r. ⌜ r ≡ foldNumber fold ⌝ }
+{
+    if fold {
+        return 1;
+    }
+    0
 }
 
 // What a refusal tells beside its number: a non-member's position and byte, or the bases outstanding; zeros where it tells nothing.

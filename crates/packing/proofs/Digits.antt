@@ -19,7 +19,7 @@ use Rattle.bits.proofs.Computed.{below}
 use Rattle.bits.proofs.Words.{bit-low, word-ext}
 use Rattle.bits.proofs.Hand.{hand-digit, cut-ext}
 use Rattle.alphabet.specs.declared.kind.AlphabetType.{AlphabetType}
-use Rattle.alphabet.specs.Symbols.{Coding, coding}
+use Rattle.alphabet.specs.Symbols.{Coding, codingBy}
 use Rattle.alphabet.proofs.Laws.{lawful, Packed, Plain, shape}
 use Rattle.packing.specs.Encode.{digitOf, digitsOf, packing}
 use Rattle.packing.specs.Run.{ran, leftOver, looked}
@@ -29,29 +29,29 @@ pub ones-low : (b : ℕ) → b ≤ 8 → 0xff % 2 ^ b ≡ 2 ^ b - 1
 ones-low b h = eqb→eq (0xff % 2 ^ b) (2 ^ b - 1) (below (λ n. eqb (0xff % 2 ^ n) (2 ^ n - 1)) 9 tt b (omega arith))
 
 -- a digit fits the width
-pub digit-lt : (k : AlphabetType) (v : ℕ) → digitOf (coding k) v < 2 ^ coding k .width
+pub digit-lt : (fold : Bool) (k : AlphabetType) (v : ℕ) → digitOf (codingBy fold k) v < 2 ^ codingBy fold k .width
 unfolding digitOf
-digit-lt k v = go (coding k .member v) refl
+digit-lt fold k v = go (codingBy fold k .member v) refl
   where
-    go : (m : Bool) → coding k .member v ≡ m → cond m (coding k .code v) (2 ^ coding k .width - 1) < 2 ^ coding k .width
-    go true e = lawful k .fits v e
-    go false e = omega (arith, pow-pos (coding k .width))
+    go : (m : Bool) → codingBy fold k .member v ≡ m → cond m (codingBy fold k .code v) (2 ^ codingBy fold k .width - 1) < 2 ^ codingBy fold k .width
+    go true e = lawful fold k .fits v e
+    go false e = omega (arith, pow-pos (codingBy fold k .width))
 
-pub digit-code : (k : AlphabetType) (v : ℕ) → v < 256 → coding k .code v % 2 ^ coding k .width ≡ digitOf (coding k) v
+pub digit-code : (fold : Bool) (k : AlphabetType) (v : ℕ) → v < 256 → codingBy fold k .code v % 2 ^ codingBy fold k .width ≡ digitOf (codingBy fold k) v
 unfolding digitOf
-digit-code k v h = go (coding k .member v) refl
+digit-code fold k v h = go (codingBy fold k .member v) refl
   where
     Goal : Type 0
-    Goal = coding k .code v % 2 ^ coding k .width ≡ 2 ^ coding k .width - 1
+    Goal = codingBy fold k .code v % 2 ^ codingBy fold k .width ≡ 2 ^ codingBy fold k .width - 1
 
-    none : coding k .member v ≡ false → Packed (coding k) ⊎ Plain (coding k) → Goal
+    none : codingBy fold k .member v ≡ false → Packed (codingBy fold k) ⊎ Plain (codingBy fold k) → Goal
     none e (_⊎_.inl packed) =
-        ap (λ (c : ℕ). c % 2 ^ coding k .width) (packed .none v e) ∙ ones-low (coding k .width) (lawful k .narrow)
+        ap (λ (c : ℕ). c % 2 ^ codingBy fold k .width) (packed .none v e) ∙ ones-low (codingBy fold k .width) (lawful fold k .narrow)
     none e (_⊎_.inr plain) = absurd (let z : _≡_ {A = Bool} true false = sym (plain .all v h) ∙ e in true≢false z)
 
-    go : (m : Bool) → coding k .member v ≡ m → coding k .code v % 2 ^ coding k .width ≡ cond m (coding k .code v) (2 ^ coding k .width - 1)
-    go true e = mod-eq-of-lt (lawful k .fits v e)
-    go false e = none e (shape k)
+    go : (m : Bool) → codingBy fold k .member v ≡ m → codingBy fold k .code v % 2 ^ codingBy fold k .width ≡ cond m (codingBy fold k .code v) (2 ^ codingBy fold k .width - 1)
+    go true e = mod-eq-of-lt (lawful fold k .fits v e)
+    go false e = none e (shape fold k)
 
 -- entry i of a list that was mapped
 pub at-map : (f : ℕ → ℕ) (xs : List ℕ) (i : ℕ) → i < length xs → at (map f xs) i ≡ f (at xs i)
@@ -66,53 +66,54 @@ looked-digit b p a table text i h =
     ap (λ (x : ℕ). x % 2 ^ b) (sym (at-map (at table) text i h)) ∙ sym (hand-digit p a b (looked table text) i)
 
 -- the digits of a text by an alphabet's encoding table have the bits of its digits by the definition
-module _ (k : AlphabetType) (table text : List ℕ) (t : table ≡ tabulate 256 (coding k .code)) (bytes : Bytes text) where
+module _ (fold : Bool) (k : AlphabetType) (table text : List ℕ) (t : table ≡ tabulate 256 (codingBy fold k .code)) (bytes : Bytes text) where
   abbrev A : Coding
-  A = coding k
+  A = codingBy fold k
 
   abbrev b : ℕ
-  b = coding k .width
+  b = codingBy fold k .width
 
-  same : (j : ℕ) → at (looked table text) j % 2 ^ coding k .width ≡ at (digitsOf (coding k) text) j % 2 ^ coding k .width
+  same : (j : ℕ) → at (looked table text) j % 2 ^ codingBy fold k .width ≡ at (digitsOf (codingBy fold k) text) j % 2 ^ codingBy fold k .width
   same j = go (decLt j (length text))
     where
-      go : Dec (j < length text) → at (looked table text) j % 2 ^ coding k .width ≡ at (digitsOf (coding k) text) j % 2 ^ coding k .width
+      go : Dec (j < length text) → at (looked table text) j % 2 ^ codingBy fold k .width ≡ at (digitsOf (codingBy fold k) text) j % 2 ^ codingBy fold k .width
       go (yes h) =
           let entry : at table (at text j) ≡ A .code (at text j) =
           ap (λ (l : List ℕ). at l (at text j)) t ∙ getD-tabulate 256 (A .code) (at text j) 0 (bytes j) in
           ap (λ (x : ℕ). x % 2 ^ b) (at-map (at table) text j h ∙ entry)
-          ∙ digit-code k (at text j) (bytes j)
-          ∙ sym (mod-eq-of-lt (digit-lt k (at text j)))
+          ∙ digit-code fold k (at text j) (bytes j)
+          ∙ sym (mod-eq-of-lt (digit-lt fold k (at text j)))
           ∙ ap (λ (x : ℕ). x % 2 ^ b) (sym (at-map (digitOf A) text j h))
       go (no h) =
           ap (λ (x : ℕ). x % 2 ^ b)
           (List·getD-eq-default (looked table text) 0 {n = j} (rw (length-map text (at table)) (omega arith))
           ∙ sym (List·getD-eq-default (digitsOf A text) 0 {n = j} (rw (length-map text (digitOf A)) (omega arith))))
 
-  long : length (looked table text) ≡ length (digitsOf (coding k) text)
-  long = length-map text (at table) ∙ sym (length-map text (digitOf (coding k)))
+  long : length (looked table text) ≡ length (digitsOf (codingBy fold k) text)
+  long = length-map text (at table) ∙ sym (length-map text (digitOf (codingBy fold k)))
 
-  bits : (i : ℕ) → bitAt (coding k .width) (at (looked table text)) i ≡ bitAt (coding k .width) (at (digitsOf (coding k) text)) i
-  bits i = bit-low b (lawful k .some-bits) (at (looked table text)) (at (digitsOf A text)) i (same (i / b))
+  bits : (i : ℕ) → bitAt (codingBy fold k .width) (at (looked table text)) i ≡ bitAt (codingBy fold k .width) (at (digitsOf (codingBy fold k) text)) i
+  bits i = bit-low b (lawful fold k .some-bits) (at (looked table text)) (at (digitsOf A text)) i (same (i / b))
 
-  hands : (p a i : ℕ) → atHand p a (coding k .width) (looked table text) i ≡ atHand p a (coding k .width) (digitsOf (coding k) text) i
+  hands : (p a i : ℕ) → atHand p a (codingBy fold k .width) (looked table text) i ≡ atHand p a (codingBy fold k .width) (digitsOf (codingBy fold k) text) i
   unfolding atHand after
   hands p a i = ap (cond (ltb i p) (a / 2 ^ (p - 1 - i) % 2)) (bits (i - p))
 
   -- so a run by the table is a run by the definition
-  pub ran-digits : (p a : ℕ) (memory : List ℕ) → ran (coding k .width) p a (looked table text) memory ≡ ran (coding k .width) p a (digitsOf (coding k) text) memory
+  pub ran-digits : (p a : ℕ) (memory : List ℕ)
+      → ran (codingBy fold k .width) p a (looked table text) memory ≡ ran (codingBy fold k .width) p a (digitsOf (codingBy fold k) text) memory
   ran-digits p a memory =
       ap (λ (n : ℕ). front (cut 8 (atHand p a b (looked table text)) 0 ((p + n * b) / 8)) memory) long
       ∙ ap (λ (l : List ℕ). front l memory) (cut-ext 8 _ _ 0 ((p + length (digitsOf A text) * b) / 8) (hands p a))
 
-  pub left-digits : (p a : ℕ) → leftOver (coding k .width) p a (looked table text) ≡ leftOver (coding k .width) p a (digitsOf (coding k) text)
+  pub left-digits : (p a : ℕ) → leftOver (codingBy fold k .width) p a (looked table text) ≡ leftOver (codingBy fold k .width) p a (digitsOf (codingBy fold k) text)
   left-digits p a =
       let n : ℕ = p + length (digitsOf A text) * b in
       ap (λ (m : ℕ). word (atHand p a b (looked table text)) ((p + m * b) / 8 * 8) ((p + m * b) % 8)) long
       ∙ word-ext _ _ (n / 8 * 8) (n / 8 * 8) (n % 8) (λ i h. hands p a _)
 
   -- and so is a whole packing
-  pub pack-digits : pack (coding k .width) (looked table text) ≡ packing (coding k) text
+  pub pack-digits : pack (codingBy fold k .width) (looked table text) ≡ packing (codingBy fold k) text
   unfolding pack packing
   pack-digits =
       ap (λ (n : ℕ). cut 8 (bitAt b (at (looked table text))) 0 (bytesFor (n * b))) long

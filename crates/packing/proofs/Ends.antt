@@ -18,7 +18,7 @@ use Rattle.alphabet.specs.declared.kind.AlphabetType.{AlphabetType}
 use Rattle.alphabet.specs.declared.kind.Named.{Named}
 use Rattle.alphabet.specs.declared.refusal.Refusal.{Refusal}
 use Rattle.alphabet.specs.Questions.{ask_else_then_, by, limit, inBounds}
-use Rattle.alphabet.specs.Symbols.{Coding, coding}
+use Rattle.alphabet.specs.Symbols.{Coding, codingBy}
 use Rattle.alphabet.specs.Names.{namedAt}
 use Rattle.alphabet.proofs.Laws.{lawful}
 use Rattle.alphabet.proofs.Calls.{named-kind, named-refused}
@@ -62,23 +62,20 @@ module _ (s e b : ℕ) where
 
 -- ---- `new`
 
-pub start-known : (n : ℕ) (k : AlphabetType) → namedAt n ≡ Named.Kind k → EncoderStarted.Fresh (freshEncoder k) ≡ startEncoderAt n
-unfolding startEncoderAt
-start-known n k e =
-    let s = named-kind n k e in
-    sym (rw (s .0) (ap (λ (x : AlphabetType). EncoderStarted.Fresh (freshEncoder x)) (s .1)))
+module _ (n : ℕ) (fold : Bool) where
+  pub start-known : (k : AlphabetType) → namedAt n ≡ Named.Kind k → EncoderStarted.Fresh (freshEncoder fold k) ≡ startEncoderAt n fold
+  unfolding startEncoderAt
+  start-known k e =
+      let s = named-kind n k e in
+      sym (rw (s .0) (ap (λ (x : AlphabetType). EncoderStarted.Fresh (freshEncoder fold x)) (s .1)))
 
-pub start-refused : (n : ℕ) (q : Refusal) → namedAt n ≡ Named.Refused q → EncoderStarted.Refused q ≡ startEncoderAt n
-unfolding startEncoderAt
-start-refused n q e =
-    let s = named-refused n q e in
-    sym (rw (s .0) (ap EncoderStarted.Refused (sym (s .1))))
+  pub start-refused : (q : Refusal) → namedAt n ≡ Named.Refused q → EncoderStarted.Refused q ≡ startEncoderAt n fold
+  unfolding startEncoderAt
+  start-refused q e =
+      let s = named-refused n q e in
+      sym (rw (s .0) (ap EncoderStarted.Refused (sym (s .1))))
 
 -- ---- question 4
-
-and-false : (b : Bool) → b && false ≡ false
-and-false true = refl
-and-false false = refl
 
 -- what a sound state has
 pub record Sound (s : SequenceEncoder) : Type 0 where
@@ -108,9 +105,11 @@ module _ (s : SequenceEncoder) where
   pub sound : soundEncoder s ≡ true → Sound s
   unfolding soundEncoder
   sound e =
-      let b3 = both-true (inBounds (s .seen) && eqb (s .bits) (s .seen * packsBy s .width % 8) && ltb (s .pending) (2 ^ s .bits)) (soundFirst (packsBy s) (s .seen) (s .first)) e in
-      let b2 = both-true (inBounds (s .seen) && eqb (s .bits) (s .seen * packsBy s .width % 8)) (ltb (s .pending) (2 ^ s .bits)) (b3 .0) in
-      let b1 = both-true (inBounds (s .seen)) (eqb (s .bits) (s .seen * packsBy s .width % 8)) (b2 .0) in
+      let left : Bool = eqb (s .bits) (s .seen * packsBy s .width % 8) in
+      let small : Bool = ltb (s .pending) (2 ^ s .bits) in
+      let b3 = both-true (inBounds (s .seen) && left && small) (soundFirst (packsBy s) (s .seen) (s .first)) e in
+      let b2 = both-true (inBounds (s .seen) && left) small (b3 .0) in
+      let b1 = both-true (inBounds (s .seen)) left (b2 .0) in
       record {
         bounded = leb-true (s .seen) limit (b1 .0);
         left = eqb-true (s .bits) (s .seen * packsBy s .width % 8) (b1 .1);
@@ -185,8 +184,8 @@ module _ (s : SequenceEncoder) (piece : List ℕ) where
   pends e l =
       let h = sound s e in
       record {
-        some = lawful (s .alphabet) .some-bits;
-        narrow = lawful (s .alphabet) .narrow;
+        some = lawful (s .fold) (s .alphabet) .some-bits;
+        narrow = lawful (s .fold) (s .alphabet) .narrow;
         few = few-bits s h;
         small = h .small;
         bounded = omega arith;
@@ -196,7 +195,7 @@ module _ (s : SequenceEncoder) (piece : List ℕ) where
   pub next-state : (bits pending : ℕ) (first : First) → bits ≡ (s .bits + length piece * packsBy s .width) % 8
       → pending ≡ leftOver (packsBy s .width) (s .bits) (s .pending) (digitsOf (packsBy s) piece)
       → first ≡ orFirst (s .first) (firstFrom (packsBy s) (s .seen) piece)
-      → record { alphabet = s .alphabet; seen = s .seen + length piece; bits = bits; pending = pending; first = first } ≡ updated s piece
+      → record { alphabet = s .alphabet; seen = s .seen + length piece; bits = bits; pending = pending; first = first; fold = s .fold } ≡ updated s piece
   unfolding updated pieceBits pieceBitCount
   next-state bits pending first e f g =
       let A : Coding = packsBy s in
@@ -304,7 +303,7 @@ module _ (s : SequenceEncoder) where
           let byte : v ≡ leftOver (A .width) (s .bits) (s .pending) [] * 2 ^ (8 - (s .bits + 0 * A .width) % 8) =
           e ∙ ap₂ (λ (x y : ℕ). x * 2 ^ (8 - y)) left (sym q) in
           let none : memory ≡ ran (A .width) (s .bits) (s .pending) [] memory = sym (ap (λ (x : ℕ). front (cut 8 hand 0 x) memory) w) in
-          let last = last-byte (A .width) (s .bits) (s .pending) (lawful (s .alphabet) .some-bits) [] memory memory v
+          let last = last-byte (A .width) (s .bits) (s .pending) (lawful (s .fold) (s .alphabet) .some-bits) [] memory memory v
           (omega (arith, q, accepted .counted)) byte (omega (arith, w, finalize-last z .0)) none in
           let all : bytesFor (s .bits + 0 * A .width) ≡ count = ap bytesFor n ∙ sym (accepted .counted) in
           ap (λ (x : ℕ). set memory x v) (sym w)
@@ -338,30 +337,31 @@ module _ (A : Coding) (text : List ℕ) (room : ℕ) where
       (leb-true (length text) limit (y₁ .0), leb-true due room (y₂ .0))
 
 -- and of its alphabet's number
-module _ (n : ℕ) (text memory : List ℕ) where
-  pub encode-unknown : (q : Refusal) → namedAt n ≡ Named.Refused q → (Encoded.Refused (by 8 []) ≡ encodeAt n text (length memory)) × (memory ≡ encodeMemory n text memory)
+module _ (n : ℕ) (fold : Bool) (text memory : List ℕ) where
+  pub encode-unknown : (q : Refusal) → namedAt n ≡ Named.Refused q
+      → (Encoded.Refused (by 8 []) ≡ encodeAt n fold text (length memory)) × (memory ≡ encodeMemory n fold text memory)
   unfolding encodeAt encodeWrites encodeMemory
   encode-unknown q e = let k = named-refused n q e in (sym (rw (k .0)), sym (rw (k .0)))
 
   module _ (k : AlphabetType) (named : namedAt n ≡ Named.Kind k) where
-    pub encode-known : encodeAt n text (length memory) ≡ encodeBy (coding k) text (length memory)
+    pub encode-known : encodeAt n fold text (length memory) ≡ encodeBy (codingBy fold k) text (length memory)
     unfolding encodeAt
-    encode-known = let s = named-kind n k named in rw (s .0) (ap (λ (x : AlphabetType). encodeBy (coding x) text (length memory)) (s .1))
+    encode-known = let s = named-kind n k named in rw (s .0) (ap (λ (x : AlphabetType). encodeBy (codingBy fold x) text (length memory)) (s .1))
 
     -- what an answer leaves in memory
-    after-answer : (r : Encoded) → encodeBy (coding k) text (length memory) ≡ r → encodeMemory n text memory ≡ front (encodeWrites n text r) memory
+    after-answer : (r : Encoded) → encodeBy (codingBy fold k) text (length memory) ≡ r → encodeMemory n fold text memory ≡ front (encodeWrites n fold text r) memory
     unfolding encodeMemory
-    after-answer r e = ap (λ (x : Encoded). front (encodeWrites n text x) memory) (encode-known ∙ e)
+    after-answer r e = ap (λ (x : Encoded). front (encodeWrites n fold text x) memory) (encode-known ∙ e)
 
-    pub encode-kept : (q : Refusal) → encodeBy (coding k) text (length memory) ≡ Encoded.Refused q → memory ≡ encodeMemory n text memory
+    pub encode-kept : (q : Refusal) → encodeBy (codingBy fold k) text (length memory) ≡ Encoded.Refused q → memory ≡ encodeMemory n fold text memory
     unfolding encodeWrites
     encode-kept q e = sym (after-answer (Encoded.Refused q) e)
 
-    pub encode-wrote : (count : ℕ) → encodeBy (coding k) text (length memory) ≡ Encoded.Wrote count
-        → front (packing (coding k) text) memory ≡ encodeMemory n text memory
+    pub encode-wrote : (count : ℕ) → encodeBy (codingBy fold k) text (length memory) ≡ Encoded.Wrote count
+        → front (packing (codingBy fold k) text) memory ≡ encodeMemory n fold text memory
     unfolding encodeWrites
     encode-wrote count e =
-        ap (λ (x : AlphabetType). front (packing (coding x) text) memory) (sym (named-kind n k named .1)) ∙ sym (after-answer (Encoded.Wrote count) e)
+        ap (λ (x : AlphabetType). front (packing (codingBy fold x) text) memory) (sym (named-kind n k named .1)) ∙ sym (after-answer (Encoded.Wrote count) e)
 
 -- ---- a first non-member
 

@@ -1,7 +1,8 @@
--- The packing of a text: how long it is, what its bytes are, and that Dna2bit's is UCSC's.
-use mathlib.Core.Path.{_≡_, sym, ap, _∙_, subst}
-use mathlib.Core.Bool.{Bool, true, cond}
-use mathlib.Core.List.{List}
+-- The packing of a text: how long it is, what its bytes are, that by the choice to fold it is the packing of the text by the choice, and that Dna2bit's is
+-- UCSC's.
+use mathlib.Core.Path.{_≡_, refl, sym, ap, _∙_, subst}
+use mathlib.Core.Bool.{Bool, true, false, cond, _&&_}
+use mathlib.Core.List.{List, [], _∷_, map}
 use Prim.Native.Nat.{ℕ, _+_, _-_, _*_, _/_, _%_, _^_, _<_}
 use native.Mathlib.Nat.{mod-eq-of-lt}
 use native.Mathlib.Decide.{decLt}
@@ -12,11 +13,13 @@ use lib.ListN.{length, length-map, List·getD-eq-default}
 use Rattle.bits.specs.Tables.{tabulate, at}
 use Rattle.bits.specs.Streams.{bitAt, word, cut}
 use Rattle.bits.specs.Packing.{bytesFor, pack}
+use Rattle.bits.proofs.Computed.{and-true}
 use Rattle.bits.proofs.Tabulated.{length-tabulate, getD-tabulate, tabulate-ext}
 use Rattle.bits.proofs.Words.{word-add, word-lt, word-whole, bit-lt}
+use Rattle.alphabet.specs.declared.kind.AlphabetType.{AlphabetType}
 use Rattle.alphabet.specs.declared.kind.AlphabetType.the-variants.{Dna2bit}
-use Rattle.alphabet.specs.Symbols.{Coding, coding}
-use Rattle.alphabet.proofs.Laws.{lawful, widths, Ucsc, dna2bit-codes}
+use Rattle.alphabet.specs.Symbols.{Coding, coding, canon, folded, folds, through, codingBy}
+use Rattle.alphabet.proofs.Laws.{lawful, widths, member-folded, length-folded, at-folded, Ucsc, dna2bit-codes}
 use Rattle.packing.specs.Encode.{digitOf, digitsOf, packing}
 use Rattle.packing.specs.Ucsc.{twoBits, basePacked, bytePacked, ucscPacked}
 use Rattle.packing.proofs.Digits.{at-map}
@@ -36,6 +39,25 @@ module _ (A : Coding) (text : List ℕ) where
       let s : ℕ → ℕ = bitAt (A .width) (at (digitsOf A text)) in
       rw (getD-tabulate n (λ i. word s (0 + i * 8) 8) j 0 (rw (length-tabulate n (λ i. word s (0 + i * 8) 8)) at h))
       (word-lt s (bit-lt (A .width) (at (digitsOf A text))) (0 + j * 8) 8)
+
+-- ---- the choice to fold
+
+-- packed through f is the text by f, packed
+pub packing-through : (f : ℕ → ℕ) (A : Coding) (text : List ℕ) → packing (through f A) text ≡ packing A (map f text)
+unfolding packing digitOf
+packing-through f A text = ap (pack (A .width)) (digits text)
+  where
+    digits : (t : List ℕ) → digitsOf (through f A) t ≡ digitsOf A (map f t)
+    digits [] = refl
+    digits (v ∷ t) = ap (λ (l : List ℕ). digitOf A (f v) ∷ l) (digits t)
+
+-- packed by the choice is the text by the choice, packed: the uppercased text, where it was chosen and the alphabet folds
+pub packing-folded : (fold : Bool) (k : AlphabetType) (text : List ℕ) → packing (codingBy fold k) text ≡ packing (coding k) (folded (fold && folds k) text)
+packing-folded fold k text = by-effect (fold && folds k)
+  where
+    by-effect : (b : Bool) → packing (through (canon b) (coding k)) text ≡ packing (coding k) (folded b text)
+    by-effect true = packing-through (canon true) (coding k) text
+    by-effect false = refl
 
 -- ---- UCSC
 
@@ -62,7 +84,7 @@ module _ (text : List ℕ) (members : (i : ℕ) → i < length text → coding D
           let m : coding Dna2bit .member v ≡ true = members i h in
           let d : at (digitsOf (coding Dna2bit) text) i ≡ coding Dna2bit .code v =
           at-map (digitOf (coding Dna2bit)) text i h ∙ ap (λ (b : Bool). cond b (coding Dna2bit .code v) (2 ^ coding Dna2bit .width - 1)) m in
-          let small : coding Dna2bit .code v < 2 ^ 2 = subst (λ (w : ℕ). coding Dna2bit .code v < 2 ^ w) (widths .of-dna2bit) (lawful Dna2bit .fits v m) in
+          let small : coding Dna2bit .code v < 2 ^ 2 = subst (λ (w : ℕ). coding Dna2bit .code v < 2 ^ w) (widths .of-dna2bit) (lawful false Dna2bit .fits v m) in
           ap (λ (x : ℕ). x % 2 ^ 2) d ∙ mod-eq-of-lt small ∙ two-bits v m ∙ sym (rw (lt-ltb i (length text) h))
       go (no h) =
           ap (λ (x : ℕ). x % 2 ^ 2) (List·getD-eq-default (digitsOf (coding Dna2bit) text) 0 {n = i} (rw (length-map text (digitOf (coding Dna2bit))) (omega arith)))
@@ -84,12 +106,21 @@ module _ (text : List ℕ) (members : (i : ℕ) → i < length text → coding D
       let d3 = digit (0 + j * 8 + 6) (4 * j + 3) (omega arith) in
       omega (arith, w6, w4, w2, d0, d1, d2, d3)
 
-  -- Dna2bit's packing is UCSC's
-  pub dna2bit-is-ucsc : packing (coding Dna2bit) text ≡ ucscPacked text
+  uppercase-is-ucsc : packing (coding Dna2bit) text ≡ ucscPacked text
   unfolding packing pack cut ucscPacked
-  dna2bit-is-ucsc =
+  uppercase-is-ucsc =
       let count : bytesFor (length (digitsOf (coding Dna2bit) text) * 2) ≡ (length text + 3) / 4 = omega (arith, length-map text (digitOf (coding Dna2bit))) in
       let digits : List ℕ = digitsOf (coding Dna2bit) text in
       ap (λ (w : ℕ). tabulate (bytesFor (length digits * w)) (λ i. word (bitAt w (at digits)) (0 + i * 8) 8)) (widths .of-dna2bit)
       ∙ ap (λ (n : ℕ). tabulate n (λ i. word (bitAt 2 (at (digitsOf (coding Dna2bit) text))) (0 + i * 8) 8)) count
       ∙ tabulate-ext ((length text + 3) / 4) (λ i. word (bitAt 2 (at (digitsOf (coding Dna2bit) text))) (0 + i * 8) 8) (bytePacked text) (λ j h. four j)
+
+-- Dna2bit's packing is UCSC's, of the text by the choice
+pub dna2bit-is-ucsc : (fold : Bool) (text : List ℕ) → ((i : ℕ) → i < length text → codingBy fold Dna2bit .member (at text i) ≡ true)
+    → packing (codingBy fold Dna2bit) text ≡ ucscPacked (folded fold text)
+dna2bit-is-ucsc fold text members =
+    let bases : (i : ℕ) → i < length (folded fold text) → coding Dna2bit .member (at (folded fold text) i) ≡ true = λ i h.
+    ap (coding Dna2bit .member) (at-folded fold text i)
+    ∙ member-folded fold Dna2bit (at text i)
+    ∙ members i (subst (λ (n : ℕ). i < n) (length-folded fold text) h) in
+    packing-folded fold Dna2bit text ∙ ap (λ (b : Bool). packing (coding Dna2bit) (folded b text)) (and-true fold) ∙ uppercase-is-ucsc (folded fold text) bases

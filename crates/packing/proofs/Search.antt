@@ -1,6 +1,6 @@
 -- The search for the first non-member, and what it says of a text.
 use mathlib.Core.Path.{_≡_, refl, sym, ap, subst, _∙_}
-use mathlib.Core.Bool.{true, false, not}
+use mathlib.Core.Bool.{Bool, true, false, not, true≢false}
 use mathlib.Core.List.{List, [], _∷_}
 use mathlib.Core.Logic.{_⊎_}
 use Prim.Native.Nat.{ℕ, zero, suc, _+_, _-_, _≤_, _<_}
@@ -12,9 +12,9 @@ use lib.ListN.{length}
 use Rattle.bits.specs.Tables.{tabulate, at, Bytes}
 use Rattle.bits.proofs.Tabulated.{getD-tabulate}
 use Rattle.alphabet.specs.declared.kind.AlphabetType.{AlphabetType}
-use Rattle.alphabet.specs.Symbols.{Coding, coding}
-use Rattle.alphabet.specs.Bases.{Run}
-use Rattle.alphabet.proofs.Laws.{Packed, Plain, shape, one-of-four}
+use Rattle.alphabet.specs.Symbols.{Coding, canon, folded, codingBy}
+use Rattle.alphabet.specs.Bases.{base, Run}
+use Rattle.alphabet.proofs.Laws.{Packed, Plain, lawful, shape, base-member, at-folded}
 use Rattle.packing.specs.declared.first.First.{First}
 use Rattle.packing.specs.Encode.{firstFrom}
 use Rattle.packing.specs.Run.{Passed, Searched, Usual}
@@ -29,15 +29,14 @@ passed-more table text i n p more j h e = go (decLt j i)
         let same : i + (j - i) ≡ j = omega arith in
         more (j - i) (omega arith) (ap (λ (x : ℕ). at table (at text x)) same ∙ e)
 
--- four entries that are not FF are all that matters
-pub usual : (table : List ℕ) → (at table 65 ≡ 0xff → ⊥) → (at table 67 ≡ 0xff → ⊥) → (at table 71 ≡ 0xff → ⊥) → (at table 84 ≡ 0xff → ⊥) → Usual table
-usual table a c g t = record { entry = one-of-four (λ (x : ℕ). at table x ≡ 0xff → ⊥) a c g t }
-
--- a run of bases is passed where no base has the entry FF
-pub passed-bases : (table text : List ℕ) (start end r : ℕ) → Usual table → Passed table text start → Run text start end r → Passed table text r
-passed-bases table text start end r usual p run =
+-- a run of bytes that stand for bases is passed where none of them has the entry FF
+pub passed-bases : (fold : Bool) (table text : List ℕ) (start end r : ℕ) → Usual fold table → Passed table text start → Run (folded fold text) start end r
+    → Passed table text r
+passed-bases fold table text start end r usual p run =
     let same : start + (r - start) ≡ r = omega (arith, run .from) in
-    subst (λ (x : ℕ). Passed table text x) same (passed-more table text start (r - start) p (λ j h. usual .entry (at text (start + j)) (run .bases .each j h)))
+    let stands : (j : ℕ) → j < r - start → base (canon fold (at text (start + j))) ≡ true =
+    λ j h. ap base (sym (at-folded fold text (start + j))) ∙ run .bases .each j h in
+    subst (λ (x : ℕ). Passed table text x) same (passed-more table text start (r - start) p (λ j h. usual .entry (at text (start + j)) (stands j h)))
 
 module _ (A : Coding) where
   -- every byte is a member
@@ -58,36 +57,46 @@ module _ (A : Coding) where
       ∙ ap (λ (n : ℕ). First.At n (at text r)) (suc-add from r ∙ sym (add-suc from r)))
 
 -- the same by a search of the encoding table
-module _ (k : AlphabetType) (table text : List ℕ) (t : table ≡ tabulate 256 (coding k .code)) (bytes : Bytes text) where
-  entry : (j : ℕ) → at table (at text j) ≡ coding k .code (at text j)
-  entry j = ap (λ (l : List ℕ). at l (at text j)) t ∙ getD-tabulate 256 (coding k .code) (at text j) 0 (bytes j)
+module _ (fold : Bool) (k : AlphabetType) (table : List ℕ) (t : table ≡ tabulate 256 (codingBy fold k .code)) where
+  entry-code : (x : ℕ) → x < 256 → at table x ≡ codingBy fold k .code x
+  entry-code x h = ap (λ (l : List ℕ). at l x) t ∙ getD-tabulate 256 (codingBy fold k .code) x 0 h
 
-  is-member : Packed (coding k) → (j : ℕ) → (at table (at text j) ≡ 0xff → ⊥) → coding k .member (at text j) ≡ true
-  is-member packed j h =
-      packed .told (at text j) ∙ ap not (ne-eqb (coding k .code (at text j)) 0xff (λ e. h (entry j ∙ e)))
+  is-member : Packed (codingBy fold k) → (x : ℕ) → x < 256 → (at table x ≡ 0xff → ⊥) → codingBy fold k .member x ≡ true
+  is-member packed x h n = packed .told x ∙ ap not (ne-eqb (codingBy fold k .code x) 0xff (λ e. n (entry-code x h ∙ e)))
 
-  no-member : Packed (coding k) → (j : ℕ) → at table (at text j) ≡ 0xff → coding k .member (at text j) ≡ false
-  no-member packed j e = packed .told (at text j) ∙ ap not (eq-eqb (coding k .code (at text j)) 0xff (sym (entry j) ∙ e))
+  no-member : Packed (codingBy fold k) → (x : ℕ) → x < 256 → at table x ≡ 0xff → codingBy fold k .member x ≡ false
+  no-member packed x h e = packed .told x ∙ ap not (eq-eqb (codingBy fold k .code x) 0xff (sym (entry-code x h) ∙ e))
 
   -- a packed alphabet is narrower than a byte
-  narrow : coding k .width < 8 → Packed (coding k) ⊎ Plain (coding k) → Packed (coding k)
+  narrow : codingBy fold k .width < 8 → Packed (codingBy fold k) ⊎ Plain (codingBy fold k) → Packed (codingBy fold k)
   narrow h (_⊎_.inl packed) = packed
   narrow h (_⊎_.inr plain) = absurd (omega (arith, plain .eight))
 
-  pub found-at : (from r : ℕ) → coding k .width < 8 → Searched table text (length text) r → r < length text → First.At (from + r) (at text r) ≡ firstFrom (coding k) from text
-  found-at from r h s l =
-      let packed : Packed (coding k) = narrow h (shape k) in
-      sym (first-at (coding k) from text r l (λ j m. is-member packed j (s .passed j m)) (no-member packed r (s .stopped l)))
-
-  pub found-none : (from r : ℕ) → coding k .width < 8 → Searched table text (length text) r → length text ≤ r → First.Nothing ≡ firstFrom (coding k) from text
-  found-none from r h s l =
-      let packed : Packed (coding k) = narrow h (shape k) in
-      sym (first-none (coding k) from text (λ j m. is-member packed j (s .passed j (omega arith))))
-
-  -- a plain alphabet holds every byte
-  pub plain-none : (from : ℕ) → 8 ≤ coding k .width → First.Nothing ≡ firstFrom (coding k) from text
-  plain-none from h = sym (first-none (coding k) from text (λ j l. go j (shape k)))
+  -- a byte that stands for a base is a member of every alphabet
+  pub usual : codingBy fold k .width < 8 → Usual fold table
+  usual h = record { entry = λ x b e. go x (base-member fold k x b) e }
     where
-      go : (j : ℕ) → Packed (coding k) ⊎ Plain (coding k) → coding k .member (at text j) ≡ true
-      go j (_⊎_.inl packed) = absurd (omega (arith, packed .five))
-      go j (_⊎_.inr plain) = plain .all (at text j) (bytes j)
+      go : (x : ℕ) → codingBy fold k .member x ≡ true → at table x ≡ 0xff → ⊥
+      go x m e = true≢false (sym m ∙ no-member (narrow h (shape fold k)) x (lawful fold k .byte x m) e)
+
+  module _ (text : List ℕ) (bytes : Bytes text) where
+    pub found-at : (from r : ℕ) → codingBy fold k .width < 8 → Searched table text (length text) r → r < length text
+        → First.At (from + r) (at text r) ≡ firstFrom (codingBy fold k) from text
+    found-at from r h s l =
+        let packed : Packed (codingBy fold k) = narrow h (shape fold k) in
+        let members : (j : ℕ) → j < r → codingBy fold k .member (at text j) ≡ true = λ j m. is-member packed (at text j) (bytes j) (s .passed j m) in
+        sym (first-at (codingBy fold k) from text r l members (no-member packed (at text r) (bytes r) (s .stopped l)))
+
+    pub found-none : (from r : ℕ) → codingBy fold k .width < 8 → Searched table text (length text) r → length text ≤ r
+        → First.Nothing ≡ firstFrom (codingBy fold k) from text
+    found-none from r h s l =
+        let packed : Packed (codingBy fold k) = narrow h (shape fold k) in
+        sym (first-none (codingBy fold k) from text (λ j m. is-member packed (at text j) (bytes j) (s .passed j (omega arith))))
+
+    -- a plain alphabet holds every byte
+    pub plain-none : (from : ℕ) → 8 ≤ codingBy fold k .width → First.Nothing ≡ firstFrom (codingBy fold k) from text
+    plain-none from h = sym (first-none (codingBy fold k) from text (λ j l. go j (shape fold k)))
+      where
+        go : (j : ℕ) → Packed (codingBy fold k) ⊎ Plain (codingBy fold k) → codingBy fold k .member (at text j) ≡ true
+        go j (_⊎_.inl packed) = absurd (omega (arith, packed .five))
+        go j (_⊎_.inr plain) = plain .all (at text j) (bytes j)

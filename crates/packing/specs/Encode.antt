@@ -1,4 +1,5 @@
--- Packing texts. States document 01, "Middle: packing", and questions 1, 4, 5, 8, 9 and 10 for `encode_sequence`, `new`, `update` and `finalize`.
+-- Packing texts. States document 01, "Middle: packing", questions 1, 4, 5, 8, 9 and 10 for `encode_sequence`, `new`, `update` and `finalize`, and request A1 for
+-- them: the choice to fold is in the coding that a text is packed by, so that a text is looked at as it came, and a refusal 5 has the byte received.
 -- Each call has its answer, from what it is given and the length `room` of its output memory, and the memory afterwards.
 use Prim.Native.Nat.{ℕ, suc, _+_, _-_, _*_, _/_, _%_, _^_}
 use mathlib.Core.Bool.{Bool, true, cond, not, _&&_}
@@ -10,8 +11,8 @@ use Rattle.bits.specs.Packing.{bytesFor, pack, atHand}
 use Rattle.bits.specs.Memory.{front}
 use Rattle.alphabet.specs.declared.kind.AlphabetType.{AlphabetType}
 use Rattle.alphabet.specs.Questions.{ask_else_then_, by, inBounds}
-use Rattle.alphabet.specs.Symbols.{Coding, coding}
-use Rattle.alphabet.specs.Names.{known, kindOf, numbered}
+use Rattle.alphabet.specs.Symbols.{Coding, codingBy}
+use Rattle.alphabet.specs.Names.{known, kindOf, numberedBy}
 use Rattle.packing.specs.declared.first.First.{First}
 use Rattle.packing.specs.declared.encoder.SequenceEncoder.{SequenceEncoder}
 use Rattle.packing.specs.declared.encoder.EncoderStarted.{EncoderStarted}
@@ -57,34 +58,34 @@ encodeBy A text room =
     unlessBad (firstFrom A 0 text) (λ position byte. Encoded.Refused (by 5 (position ∷ byte ∷ []))) (Encoded.Wrote (bytesFor (length text * A .width)))
 
 -- and before it: alphabet number
-unfoldable pub encodeAt : ℕ → List ℕ → ℕ → Encoded
-encodeAt alphabet text room = ask known alphabet else Encoded.Refused (by 8 []) then encodeBy (numbered alphabet) text room
+unfoldable pub encodeAt : ℕ → Bool → List ℕ → ℕ → Encoded
+encodeAt alphabet fold text room = ask known alphabet else Encoded.Refused (by 8 []) then encodeBy (numberedBy fold alphabet) text room
 
 -- the bytes that an answer writes: the whole packing
-unfoldable pub encodeWrites : ℕ → List ℕ → Encoded → List ℕ
-encodeWrites alphabet text (Encoded.Wrote count) = packing (numbered alphabet) text
-encodeWrites alphabet text (Encoded.Refused q) = []
+unfoldable pub encodeWrites : ℕ → Bool → List ℕ → Encoded → List ℕ
+encodeWrites alphabet fold text (Encoded.Wrote count) = packing (numberedBy fold alphabet) text
+encodeWrites alphabet fold text (Encoded.Refused q) = []
 
 -- the output memory afterwards
-unfoldable pub encodeMemory : ℕ → List ℕ → List ℕ → List ℕ
-encodeMemory alphabet text memory = front (encodeWrites alphabet text (encodeAt alphabet text (length memory))) memory
+unfoldable pub encodeMemory : ℕ → Bool → List ℕ → List ℕ → List ℕ
+encodeMemory alphabet fold text memory = front (encodeWrites alphabet fold text (encodeAt alphabet fold text (length memory))) memory
 
 -- ---- the encoder's state
 
--- the coding that a state packs by
+-- the coding that a state packs by: its alphabet's, by its choice
 abbrev pub packsBy : SequenceEncoder → Coding
-packsBy s = coding (s .alphabet)
+packsBy s = codingBy (s .fold) (s .alphabet)
 
 -- an encoder that has seen nothing
-unfoldable pub freshEncoder : AlphabetType → SequenceEncoder
-freshEncoder k = record { alphabet = k; seen = 0; bits = 0; pending = 0; first = First.Nothing }
+unfoldable pub freshEncoder : Bool → AlphabetType → SequenceEncoder
+freshEncoder fold k = record { alphabet = k; seen = 0; bits = 0; pending = 0; first = First.Nothing; fold = fold }
 
 -- a first non-member is no member, and was seen
 abbrev pub soundFirst : Coding → ℕ → First → Bool
 soundFirst A seen First.Nothing = true
 soundFirst A seen (First.At position byte) = not (A .member byte) && ltb position seen
 
--- question 4: symbols seen, pending bit count, pending value, first non-member
+-- question 4: symbols seen, pending bit count, pending value, first non-member. (Either choice is sound.)
 unfoldable pub soundEncoder : SequenceEncoder → Bool
 soundEncoder s =
     inBounds (s .seen)
@@ -95,10 +96,10 @@ soundEncoder s =
 -- ---- `new`
 
 -- asked: alphabet number
-unfoldable pub startEncoderAt : ℕ → EncoderStarted
-startEncoderAt alphabet =
+unfoldable pub startEncoderAt : ℕ → Bool → EncoderStarted
+startEncoderAt alphabet fold =
     ask known alphabet else EncoderStarted.Refused (by 8 []) then
-    EncoderStarted.Fresh (freshEncoder (kindOf alphabet))
+    EncoderStarted.Fresh (freshEncoder fold (kindOf alphabet))
 
 -- ---- `update`
 
@@ -110,7 +111,7 @@ pieceBits s piece = atHand (s .bits) (s .pending) (packsBy s .width) (digitsOf (
 unfoldable pub pieceBitCount : SequenceEncoder → ℕ → ℕ
 pieceBitCount s len = s .bits + len * packsBy s .width
 
--- the state after an accepted piece: the bits past the last whole byte pend
+-- the state after an accepted piece: the bits past the last whole byte pend, and the choice stays
 unfoldable pub updated : SequenceEncoder → List ℕ → SequenceEncoder
 updated s piece =
     record {
@@ -119,6 +120,7 @@ updated s piece =
       bits = pieceBitCount s (length piece) % 8;
       pending = word (pieceBits s piece) (pieceBitCount s (length piece) / 8 * 8) (pieceBitCount s (length piece) % 8);
       first = orFirst (s .first) (firstFrom (packsBy s) (s .seen) piece);
+      fold = s .fold;
     }
 
 -- asked: state, symbols seen, memory for the bytes that the piece completes

@@ -1,8 +1,8 @@
 -- What a run over a text is handed, and what comes of it: digits of b bits behind bits that pend. The public calls' definitions are in Encode.antt; this is the
--- contract between them and the loop, which knows a table and no alphabet.
+-- contract between them and the loops, which know a table and no alphabet. Of request A1 the search alone knows: which bytes stand for bases goes by the choice.
 use Prim.Native.Nat.{ℕ, _+_, _*_, _/_, _%_, _^_, _≤_, _<_}
 use mathlib.Core.Path.{_≡_}
-use mathlib.Core.Bool.{true}
+use mathlib.Core.Bool.{Bool, true}
 use mathlib.Core.List.{List, map}
 use lib.ListN.{length}
 use Rattle.bits.specs.Tables.{at}
@@ -10,6 +10,7 @@ use Rattle.bits.specs.Streams.{word, cut}
 use Rattle.bits.specs.Packing.{atHand}
 use Rattle.bits.specs.Memory.{front}
 use Rattle.alphabet.specs.Questions.{limit}
+use Rattle.alphabet.specs.Symbols.{canon}
 use Rattle.alphabet.specs.Bases.{base}
 
 -- p bits of value a pend, and n digits of b bits come behind them
@@ -57,6 +58,6 @@ pub record Searched (table text : List ℕ) (n r : ℕ) : Type 0 where
 pub record Overlaid (table text : List ℕ) (i n r : ℕ) : Type 0 where
   pub told : (j : ℕ) → j < n → at table (at text (i + j)) ≡ 0xff → r ≡ 0xff
 
--- no base has the entry FF
-pub record Usual (table : List ℕ) : Type 0 where
-  pub entry : (x : ℕ) → base x ≡ true → at table x ≡ 0xff → ⊥
+-- no byte that stands for a base has the entry FF
+pub record Usual (fold : Bool) (table : List ℕ) : Type 0 where
+  pub entry : (x : ℕ) → base (canon fold x) ≡ true → at table x ≡ 0xff → ⊥

@@ -7,9 +7,11 @@ use crate::words::pad;
 use alphabet::AlphabetType;
 use alphabet::Named;
 use alphabet::Refusal;
-use alphabet::contains;
 use alphabet::encoding_array;
+use alphabet::fold_entries;
+use alphabet::has_effect;
 use alphabet::kind_of_number;
+use alphabet::takes;
 use bits::LIMIT;
 use bits::power;
 ghost use mathlib.Core.Path.{_≡_};
@@ -19,15 +21,17 @@ ghost use lib.ListN.{length};
 ghost use Rattle.bits.specs.Tables.{tabulate};
 ghost use Rattle.alphabet.specs.Questions.{limit};
 ghost use Rattle.packing.specs.Encode.{packsBy, soundFirst, soundEncoder, startEncoderAt, updated, updateAt, updateMemory, finalizeAt, finalizeMemory};
-ghost use Rattle.alphabet.specs.Symbols.{coding};
+ghost use Rattle.alphabet.specs.Symbols.{codingBy};
 
-// The state between pieces: `seen` symbols so far, of which `bits` bits, of value `pending`, fill no byte yet.
+// The state between pieces: `seen` symbols so far, of which `bits` bits, of value `pending`, fill no byte yet. Whether lowercase letters fold is chosen once,
+// for the whole text.
 pub struct SequenceEncoder {
     pub alphabet: AlphabetType,
     pub seen: usize,
     pub bits: u8,
     pub pending: u8,
     pub first: First,
+    pub fold: bool,
 }
 
 // What `new` answers.
@@ -48,14 +52,14 @@ pub enum Finalized {
     Refused(Refusal, SequenceEncoder),
 }
 
-// Whether a first non-member is none of the alphabet and was seen.
-fn is_sound_first(kind: AlphabetType, seen: usize, first: First) -> bool
-    ensures { λ r. ⌜ r ≡ soundFirst (coding kind) seen first ⌝ }
+// Whether a first non-member is none of the alphabet, by the choice to fold, and was seen.
+fn is_sound_first(kind: AlphabetType, fold: bool, seen: usize, first: First) -> bool
+    ensures { λ r. ⌜ r ≡ soundFirst (codingBy fold kind) seen first ⌝ }
 {
     match first {
         First::Nothing => true,
         First::At { position, byte } => {
-            if contains(kind, byte) {
+            if takes(kind, fold, byte) {
                 return false;
             }
             position < seen
@@ -64,9 +68,9 @@ fn is_sound_first(kind: AlphabetType, seen: usize, first: First) -> bool
 }
 
 impl SequenceEncoder {
-    // An encoder that has seen nothing, for an alphabet by its number.
-    pub fn new(alphabet: u64) -> EncoderStarted
-        ensures { λ r. ⌜ r ≡ startEncoderAt alphabet ⌝ }
+    // An encoder that has seen nothing, for an alphabet by its number and the choice to fold.
+    pub fn new(alphabet: u64, fold: bool) -> EncoderStarted
+        ensures { λ r. ⌜ r ≡ startEncoderAt alphabet fold ⌝ }
     {
         match kind_of_number(alphabet) {
             Named::Kind(kind) => EncoderStarted::Fresh(SequenceEncoder {
@@ -75,6 +79,7 @@ impl SequenceEncoder {
                 bits: 0,
                 pending: 0,
                 first: First::Nothing,
+                fold,
             }),
             Named::Refused(refusal) => EncoderStarted::Refused(refusal),
         }
@@ -97,7 +102,7 @@ impl SequenceEncoder {
         if power(bits) <= self.pending as u64 {
             return false;
         }
-        is_sound_first(kind, seen, first)
+        is_sound_first(kind, self.fold, seen, first)
     }
 
     // The state after an accepted piece. A non-member counts as a symbol of b ones, and packing goes on; the first one's position, over all accepted pieces, is
@@ -115,17 +120,18 @@ impl SequenceEncoder {
         let seen = self.seen;
         let after = seen + len;
         let before = self.first;
-        let first = first_of(before, kind, table, seen, piece);
+        let first = first_of(before, kind, self.fold, table, seen, piece);
         SequenceEncoder {
             alphabet: kind,
             seen: after,
             bits: left,
             pending,
             first,
+            fold: self.fold,
         }
     }
 
-    // The answer to a piece and memory of `room` bytes: the questions in their order, and nothing written. The table is the alphabet's.
+    // The answer to a piece and memory of `room` bytes: the questions in their order, and nothing written. The table is the state's.
     fn asked(self, table: &[u8; 256], piece: &[u8], room: usize) -> Updated
         requires { ⌜ now table ≡ tabulate 256 (packsBy self .code) ⌝ }
         ensures { λ r. ⌜ r ≡ updateAt self (now (piece .entry)) room ⌝ }
@@ -151,7 +157,8 @@ impl SequenceEncoder {
         ensures memory { λ _. ⌜ now (out .exit) ≡ updateMemory self (now (piece .entry)) (now (out .entry)) ⌝ }
     {
         let kind = self.alphabet;
-        let table = encoding_array(kind);
+        let mut table = encoding_array(kind);
+        fold_entries(has_effect(self.fold, kind), &mut table);
         let answer = self.asked(&table, piece, out.len());
         let Updated::Wrote(_, _) = answer else {
             return answer;

@@ -8,6 +8,8 @@ use alphabet::AlphabetType;
 use alphabet::Named;
 use alphabet::Refusal;
 use alphabet::encoding_array;
+use alphabet::fold_entries;
+use alphabet::has_effect;
 use alphabet::kind_of_number;
 use bits::LIMIT;
 ghost use mathlib.Core.Path.{_≡_};
@@ -16,7 +18,7 @@ ghost use lib.ListN.{length};
 ghost use Rattle.bits.specs.Tables.{tabulate};
 ghost use Rattle.bits.specs.Packing.{bytesFor, pack};
 ghost use Rattle.bits.specs.Memory.{front};
-ghost use Rattle.alphabet.specs.Symbols.{coding};
+ghost use Rattle.alphabet.specs.Symbols.{codingBy};
 ghost use Rattle.packing.specs.Encode.{encodeBy, encodeAt, encodeMemory};
 ghost use Rattle.packing.specs.Run.{Pends, looked};
 
@@ -26,10 +28,11 @@ pub enum Encoded {
     Refused(Refusal),
 }
 
-// The answer to a text and memory of `room` bytes: the questions in their order, and nothing written. The table is the alphabet's.
-fn asked(kind: AlphabetType, table: &[u8; 256], text: &[u8], room: usize) -> Encoded
-    requires { ⌜ now table ≡ tabulate 256 (coding kind .code) ⌝ }
-    ensures { λ r. ⌜ r ≡ encodeBy (coding kind) (now (text .entry)) room ⌝ }
+// The answer to a text and memory of `room` bytes: the questions in their order, and nothing written. The table is the
+// alphabet's, by the choice to fold.
+fn asked(kind: AlphabetType, fold: bool, table: &[u8; 256], text: &[u8], room: usize) -> Encoded
+    requires { ⌜ now table ≡ tabulate 256 (codingBy fold kind .code) ⌝ }
+    ensures { λ r. ⌜ r ≡ encodeBy (codingBy fold kind) (now (text .entry)) room ⌝ }
 {
     let len = text.len();
     if LIMIT < len {
@@ -39,7 +42,7 @@ fn asked(kind: AlphabetType, table: &[u8; 256], text: &[u8], room: usize) -> Enc
     if room < count {
         return Encoded::Refused(Refusal::ShortMemory);
     }
-    if let First::At { position, byte } = first_from(kind, table, 0, text) {
+    if let First::At { position, byte } = first_from(kind, fold, table, 0, text) {
         return Encoded::Refused(Refusal::NonMember { position, byte });
     }
     Encoded::Wrote(count)
@@ -58,17 +61,18 @@ fn write_packing(table: &[u8; 256], b: usize, text: &[u8], out: &mut [u8])
     }
 }
 
-// The packing of a text, whole. A non-member is found before the first byte is stored.
-pub fn encode_sequence(alphabet: u64, text: &[u8], out: &mut [u8]) -> Encoded
-    ensures { λ r. ⌜ r ≡ encodeAt alphabet (now (text .entry)) (length (now (out .entry))) ⌝ }
-    ensures memory { λ _. ⌜ now (out .exit) ≡ encodeMemory alphabet (now (text .entry)) (now (out .entry)) ⌝ }
+// The packing of a text, whole, by the choice to fold. A non-member is found before the first byte is stored.
+pub fn encode_sequence(alphabet: u64, fold: bool, text: &[u8], out: &mut [u8]) -> Encoded
+    ensures { λ r. ⌜ r ≡ encodeAt alphabet fold (now (text .entry)) (length (now (out .entry))) ⌝ }
+    ensures memory { λ _. ⌜ now (out .exit) ≡ encodeMemory alphabet fold (now (text .entry)) (now (out .entry)) ⌝ }
 {
     let named = kind_of_number(alphabet);
     let Named::Kind(kind) = named else {
         return Encoded::Refused(Refusal::NoAlphabet);
     };
-    let table = encoding_array(kind);
-    let answer = asked(kind, &table, text, out.len());
+    let mut table = encoding_array(kind);
+    fold_entries(has_effect(fold, kind), &mut table);
+    let answer = asked(kind, fold, &table, text, out.len());
     let Encoded::Wrote(_) = answer else {
         return answer;
     };

@@ -36,7 +36,7 @@ use Rattle.packseq.specs.declared.input.Reading.{Reading}
 
 -- its count is the packing's length
 encode-count :
-    (n : ℕ) (text : List ℕ) (room count : ℕ) → encodeAt n text room ≡ Encoded.Wrote count → length (packing (numbered n) text) ≡ count
+    (n : ℕ) (text : List ℕ) (room count : ℕ) → encodeAt n false text room ≡ Encoded.Wrote count → length (packing (numbered n) text) ≡ count
 unfolding encodeAt
 encode-count n text room count e =
     packing-length (numbered n) text ∙ go (known n) (inBounds (length text)) (leb (bytesFor (length text * numbered n .width)) room) (firstFrom (numbered n) 0 text) e
@@ -55,9 +55,9 @@ encode-count n text room count e =
 
 -- a call on the guessed alphabet
 module _ (text memory out : List ℕ) (kind : AlphabetType) (n : ℕ) (answer : Encoded)
-    (k : kind ≡ guessOf text) (m : n ≡ numberOf kind) (a : answer ≡ encodeAt n text (length memory)) (o : out ≡ encodeMemory n text memory) where
+    (k : kind ≡ guessOf false text) (m : n ≡ numberOf kind) (a : answer ≡ encodeAt n false text (length memory)) (o : out ≡ encodeMemory n false text memory) where
   -- the number is that of the guess
-  same-coding : numbered n ≡ coding (guessOf text)
+  same-coding : numbered n ≡ coding (guessOf false text)
   same-coding = ap coding (ap kindOf m ∙ kind-number kind ∙ k)
 
   module _ (count : ℕ) (w : answer ≡ Encoded.Wrote count) where
@@ -66,14 +66,14 @@ module _ (text memory out : List ℕ) (kind : AlphabetType) (n : ℕ) (answer : 
 
     written : out ≡ packing (numbered n) text ++ drop (length (packing (numbered n) text)) memory
     unfolding encodeMemory encodeWrites
-    written = o ∙ ap (λ (x : Encoded). front (encodeWrites n text x) memory) (sym a ∙ w)
+    written = o ∙ ap (λ (x : Encoded). front (encodeWrites n false text x) memory) (sym a ∙ w)
 
     count-within : count ≤ length out
     count-within =
         omega (arith, counted, ap length written, length-append (packing (numbered n) text) (drop (length (packing (numbered n) text)) memory))
 
     -- the bytes that are printed
-    packed-part : take count out ≡ take count (packing (coding (guessOf text)) text)
+    packed-part : take count out ≡ take count (packing (coding (guessOf false text)) text)
     packed-part =
         ap (take count) written
         ∙ take-at (packing (numbered n) text) (drop (length (packing (numbered n) text)) memory) count counted
@@ -94,22 +94,22 @@ module _ (text memory out : List ℕ) (kind : AlphabetType) (n : ℕ) (answer : 
   is-answered short room = go answer refl ∙ sym by-answer
     where
       packed : List ℕ
-      packed = packing (coding (guessOf text)) text
+      packed = packing (coding (guessOf false text)) text
 
-      by-answer : printed text ≡ answered (guessOf text) (length text) answer packed
+      by-answer : printed text ≡ answered (guessOf false text) (length text) answer packed
       by-answer =
           rw (le-leb (length text) longest short)
-          (ap (λ (x : Encoded). answered (guessOf text) (length text) x packed)
-          (ap (λ (x : AlphabetType). encodeAt (numberOf x) text longest) (sym k)
-          ∙ ap (λ (x : ℕ). encodeAt x text longest) (sym m)
-          ∙ ap (encodeAt n text) (sym room)
+          (ap (λ (x : Encoded). answered (guessOf false text) (length text) x packed)
+          (ap (λ (x : AlphabetType). encodeAt (numberOf x) false text longest) (sym k)
+          ∙ ap (λ (x : ℕ). encodeAt x false text longest) (sym m)
+          ∙ ap (encodeAt n false text) (sym room)
           ∙ sym a))
 
-      go : (x : Encoded) → answer ≡ x → answered kind (length text) answer out ≡ answered (guessOf text) (length text) answer packed
+      go : (x : Encoded) → answer ≡ x → answered kind (length text) answer out ≡ answered (guessOf false text) (length text) answer packed
       go (Encoded.Wrote count) w =
           rw w
           (ap (λ (x : AlphabetType). packedLines x (length text) (take count out)) k
-          ∙ ap (packedLines (guessOf text) (length text)) (packed-part count w))
+          ∙ ap (packedLines (guessOf false text) (length text)) (packed-part count w))
       go (Encoded.Refused q) w = rw w
 
 -- a text that is too long
@@ -121,22 +121,22 @@ is-long text h = rw (lt-leb (length text) longest h)
 
 packed-short : (k : AlphabetType) (text : List ℕ) → length text ≤ longest → length (packing (coding k) text) ≤ longest
 packed-short k text h =
-    let bits : length text * coding k .width ≤ longest * 8 = mul-le-mul h (lawful k .narrow) in
+    let bits : length text * coding k .width ≤ longest * 8 = mul-le-mul h (lawful false k .narrow) in
     omega (arith, packing-length (coding k) text)
 
 pub printed-fits : (text : List ℕ) → length (printed text) ≤ most
 unfolding printed answered bytesOf
-printed-fits text = go (leb (length text) longest) refl (encodeAt (numberOf (guessOf text)) text longest)
+printed-fits text = go (leb (length text) longest) refl (encodeAt (numberOf (guessOf false text)) false text longest)
   where
     packed : List ℕ
-    packed = packing (coding (guessOf text)) text
+    packed = packing (coding (guessOf false text)) text
 
     go :
         (b : Bool) → leb (length text) longest ≡ b → (e : Encoded)
-        → length (ask b else line (bytesOf "too long") then answered (guessOf text) (length text) e packed) ≤ most
+        → length (ask b else line (bytesOf "too long") then answered (guessOf false text) (length text) e packed) ≤ most
     go true h (Encoded.Wrote count) =
-        let short = packed-short (guessOf text) text (leb-true (length text) longest h) in
-        omega (arith, packed-most (guessOf text) (length text) (take count packed), length-take count packed, short)
+        let short = packed-short (guessOf false text) text (leb-true (length text) longest h) in
+        omega (arith, packed-most (guessOf false text) (length text) (take count packed), length-take count packed, short)
     go true h (Encoded.Refused q) = omega (arith, refused-most q)
     go false h e = omega (arith, line-length (bytesOf "too long"))
 
@@ -193,13 +193,13 @@ module _ (reading : Reading) (len : ℕ) where
 
 -- three lines for every text of at most 16,384 bytes
 pub three-lines :
-    (text : List ℕ) → Bytes text → length text ≤ 16384 → printed text ≡ packedLines (guessOf text) (length text) (packing (coding (guessOf text)) text)
+    (text : List ℕ) → Bytes text → length text ≤ 16384 → printed text ≡ packedLines (guessOf false text) (length text) (packing (coding (guessOf false text)) text)
 unfolding printed answered encodeAt
 three-lines text bytes h =
-    let k : AlphabetType = guessOf text in
+    let k : AlphabetType = guessOf false text in
     let packed : List ℕ = packing (coding k) text in
     let same : numbered (numberOf k) ≡ coding k = ap coding (kind-number k) in
-    let none : firstFrom (coding k) 0 text ≡ First.Nothing = first-none (coding k) 0 text (guess-members text bytes) in
+    let none : firstFrom (coding k) 0 text ≡ First.Nothing = first-none (coding k) 0 text (guess-members false text bytes) in
     let count : ℕ = bytesFor (length text * coding k .width) in
     let long : length packed ≡ count = packing-length (coding k) text in
     let fits : leb count longest ≡ true = le-leb count longest (omega (arith, long, packed-short k text h)) in

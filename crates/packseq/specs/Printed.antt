@@ -1,5 +1,6 @@
 -- What `packseq` prints. States document 01 on the program.
 use Prim.Native.Nat.{ℕ}
+use mathlib.Core.Bool.{false}
 use mathlib.Core.List.{List}
 use lib.Dec.{leb}
 use lib.ListN.{length, take}
@@ -32,11 +33,11 @@ unfoldable pub answered : AlphabetType → ℕ → Encoded → List ℕ → List
 answered kind count (Encoded.Wrote n) packed = packedLines kind count (take n packed)
 answered kind count (Encoded.Refused refusal) packed = refusedLine refusal
 
--- the whole output for a text: it is guessed and packed, or it is too long
+-- the whole output for a text: it is guessed and packed, both without folding, or it is too long
 unfoldable pub printed : List ℕ → List ℕ
 printed text =
     ask leb (length text) longest else line (bytesOf "too long") then
-    answered (guessOf text) (length text) (encodeAt (numberOf (guessOf text)) text longest) (packing (coding (guessOf text)) text)
+    answered (guessOf false text) (length text) (encodeAt (numberOf (guessOf false text)) false text longest) (packing (coding (guessOf false text)) text)
 
 -- the whole output for what reading has put into a buffer: a text that was not read to its end is not printed
 unfoldable pub output : Reading → List ℕ → List ℕ

@@ -44,9 +44,10 @@ fn put_printed(text: &[u8], out: &mut [u8]) -> usize
     if LONGEST < text.len() {
         return lines::text_line(b"too long", out);
     }
-    let kind = alphabet::guess_alphabet(text);
+    // without folding: a text with lowercase letters is Ascii to this program
+    let kind = alphabet::guess_alphabet(false, text);
     let mut packed = [0u8; LONGEST];
-    let answer = coder::encode_sequence(kind.number(), text, &mut packed);
+    let answer = coder::encode_sequence(kind.number(), false, text, &mut packed);
     put_answer(kind, text.len() as u64, answer, &packed, out)
 }
 

@@ -1,6 +1,7 @@
--- Two sequences of members of one alphabet have equal packed bytes exactly when one is the other followed by symbols of code zero and the byte counts agree.
+-- Two sequences of members of one alphabet, by one choice to fold, have equal packed bytes exactly when one is the other followed by symbols of code zero and the
+-- byte counts agree.
 use mathlib.Core.Path.{_≡_, sym, ap, _∙_}
-use mathlib.Core.Bool.{true, not}
+use mathlib.Core.Bool.{Bool, true, not}
 use mathlib.Core.List.{List, _++_, map, map-append}
 use mathlib.Core.Logic.{_↔_, _⊎_, inl, inr, ⊎-elim}
 use Prim.Native.Nat.{ℕ, _+_, _-_, _%_, _^_, _≤_, _<_}
@@ -13,7 +14,7 @@ use lib.Seq.{ext-getD, getD-take, getD-drop, getD-append-add, length-take-le}
 use Rattle.bits.specs.Tables.{at}
 use Rattle.bits.proofs.Alike.{alike-digits, digits-alike}
 use Rattle.alphabet.specs.declared.kind.AlphabetType.{AlphabetType}
-use Rattle.alphabet.specs.Symbols.{Coding, coding}
+use Rattle.alphabet.specs.Symbols.{Coding, codingBy}
 use Rattle.alphabet.proofs.Laws as laws
 use Rattle.alphabet.proofs.Laws.{lawful, Plain, shape, by-canon}
 use Rattle.packing.specs.Encode.{digitOf, digitsOf, packing}
@@ -28,13 +29,13 @@ pub member-digit : (A : Coding) (v : ℕ) → A .member v ≡ true → digitOf A
 unfolding digitOf
 member-digit A v m = rw m
 
-module _ (k : AlphabetType) where
+module _ (fold : Bool) (k : AlphabetType) where
   abbrev A : Coding
-  A = coding k
+  A = codingBy fold k
 
   -- a byte of code zero is a member
   zero-member : (v : ℕ) → A .code v ≡ 0 → A .member v ≡ true
-  zero-member v z = go (shape k)
+  zero-member v z = go (shape fold k)
     where
       go : laws.Packed A ⊎ Plain A → A .member v ≡ true
       go (_⊎_.inl packed) = packed .told v ∙ ap (λ (c : ℕ). not (eqb c 0xff)) z
@@ -50,18 +51,18 @@ module _ (k : AlphabetType) where
   digit-narrow text i = go (decLt i (length text))
     where
       go : Dec (i < length text) → digitAt A text i % 2 ^ A .width ≡ digitAt A text i
-      go (yes h) = rw (at-map (digitOf A) text i h) (mod-eq-of-lt (digit-lt k (at text i)))
-      go (no h) = rw (digit-past text i (omega arith)) (mod-eq-of-lt {n = 0} (omega (arith, digit-lt k 0)))
+      go (yes h) = rw (at-map (digitOf A) text i h) (mod-eq-of-lt (digit-lt fold k (at text i)))
+      go (no h) = rw (digit-past text i (omega arith)) (mod-eq-of-lt {n = 0} (omega (arith, digit-lt fold k 0)))
 
   -- equal packings have equal digits, at every place
   same-digits : (t u : List ℕ) → packing A t ≡ packing A u → (i : ℕ) → digitAt A t i ≡ digitAt A u i
   unfolding packing
   same-digits t u e i =
-      sym (digit-narrow t i) ∙ alike-digits (A .width) (lawful k .some-bits) (digitsOf A t) (digitsOf A u) e i ∙ digit-narrow u i
+      sym (digit-narrow t i) ∙ alike-digits (A .width) (lawful fold k .some-bits) (digitsOf A t) (digitsOf A u) e i ∙ digit-narrow u i
 
   same-packing : (t u : List ℕ) → ((i : ℕ) → digitAt A t i ≡ digitAt A u i) → length (packing A t) ≡ length (packing A u) → packing A t ≡ packing A u
   unfolding packing
-  same-packing t u h e = digits-alike (A .width) (lawful k .some-bits) (digitsOf A t) (digitsOf A u) h e
+  same-packing t u h e = digits-alike (A .width) (lawful fold k .some-bits) (digitsOf A t) (digitsOf A u) h e
 
   -- so the longer text is the shorter one and then symbols of code zero
   to-extends : (t u : List ℕ) → Members A t → Members A u → length t ≤ length u → packing A t ≡ packing A u → Extends A t u
@@ -82,7 +83,7 @@ module _ (k : AlphabetType) where
           let second : i < length u = omega arith in
           at-map (A .canon) (take (length t) u) i here
           ∙ ap (A .canon) (getD-take (length t) u i 0 first)
-          ∙ lawful k .one-code (at u i) (at t i) (mu i second) (mt i first) (sym (digit-inside u mu i second) ∙ sym (same-digits t u e i) ∙ digit-inside t mt i first)
+          ∙ lawful fold k .one-code (at u i) (at t i) (mu i second) (mt i first) (sym (digit-inside u mu i second) ∙ sym (same-digits t u e i) ∙ digit-inside t mt i first)
           ∙ sym (at-map (A .canon) t i first)
 
       joined : map (A .canon) u ≡ map (A .canon) (t ++ drop (length t) u)
@@ -97,7 +98,7 @@ module _ (k : AlphabetType) where
   -- bytes that stand for the same symbols have the same digits
   canon-digit : (v w : ℕ) → A .canon v ≡ A .canon w → digitOf A v ≡ digitOf A w
   unfolding digitOf
-  canon-digit v w e = rw (by-canon k v w e .0, by-canon k v w e .1)
+  canon-digit v w e = rw (by-canon fold k v w e .0, by-canon fold k v w e .1)
 
   canon-digits : (u w : List ℕ) → map (A .canon) u ≡ map (A .canon) w → digitsOf A u ≡ digitsOf A w
   canon-digits u w e =
@@ -131,11 +132,7 @@ module _ (k : AlphabetType) where
       same-packing t u (λ i. zero-digits t (x .more) (x .zeros) i ∙ ap (λ (l : List ℕ). at l i) (sym (canon-digits u (t ++ x .more) (x .joined)))) e
 
   pub alike :
-      (t u : List ℕ) →
-      Members (coding k) t →
-      Members (coding k) u →
-      (packing (coding k) t ≡ packing (coding k) u)
-      ↔ ((Extends (coding k) t u ⊎ Extends (coding k) u t) × (length (packing (coding k) t) ≡ length (packing (coding k) u)))
+      (t u : List ℕ) → Members A t → Members A u → (packing A t ≡ packing A u) ↔ ((Extends A t u ⊎ Extends A u t) × (length (packing A t) ≡ length (packing A u)))
   alike t u mt mu = (
     λ e. (one (decLt (length u) (length t)) e, ap length e),
     λ p. ⊎-elim (λ x. from-extends t u x (p .1)) (λ x. sym (from-extends u t x (sym (p .1)))) (p .0),

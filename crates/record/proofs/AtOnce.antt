@@ -13,7 +13,7 @@ use Rattle.bits.specs.Packing.{bytesFor}
 use Rattle.bits.specs.Memory.{front}
 use Rattle.alphabet.specs.Questions.{ask_else_then_, by, limit, inBounds}
 use Rattle.alphabet.specs.Symbols.{Coding}
-use Rattle.alphabet.specs.Names.{known, numbered}
+use Rattle.alphabet.specs.Names.{known, numberedBy}
 use Rattle.packing.specs.declared.first.First.{First}
 use Rattle.packing.specs.declared.sequence.Encoded.{Encoded}
 use Rattle.packing.specs.Encode.{packing, firstFrom, unlessBad, encodeAt, encodeWrites, encodeMemory}
@@ -40,21 +40,21 @@ none-members A i (x ∷ text) e = go (A .member x) refl e (none-members A (suc i
     go true m e ih (suc j) h = ih e j (le-of-suc-le-suc h)
     go false m e ih j h = let z : _≡_ {A = ℕ} 0 1 = cc in absurd (omega arith)
 
-module _ (alphabet : ℕ) (text : List ℕ) where
+module _ (alphabet : ℕ) (fold : Bool) (text : List ℕ) where
   abbrev need : ℕ
-  need = bytesFor (length text * numbered alphabet .width)
+  need = bytesFor (length text * numberedBy fold alphabet .width)
 
   -- a text that is packed, in memory that is long enough
   pub encode-packed :
       (packed memory : List ℕ) →
-      Packed alphabet text packed →
+      Packed alphabet fold text packed →
       length packed ≤ length memory →
-      (encodeAt alphabet text (length memory) ≡ Encoded.Wrote (length packed)) × (encodeMemory alphabet text memory ≡ front packed memory)
+      (encodeAt alphabet fold text (length memory) ≡ Encoded.Wrote (length packed)) × (encodeMemory alphabet fold text memory ≡ front packed memory)
   unfolding encodeAt encodeWrites encodeMemory
   encode-packed packed memory p room =
       let bounds : inBounds (length text) ≡ true = le-leb (length text) limit (p .bounded) in
       let fits : leb need (length memory) ≡ true = le-leb need (length memory) (omega (arith, p .counted)) in
-      let none : firstFrom (numbered alphabet) 0 text ≡ First.Nothing = members-none (numbered alphabet) 0 text (p .members) in (
+      let none : firstFrom (numberedBy fold alphabet) 0 text ≡ First.Nothing = members-none (numberedBy fold alphabet) 0 text (p .members) in (
         rw (p .has-alphabet, bounds, fits, none) (ap Encoded.Wrote (sym (p .counted))),
         rw (p .has-alphabet, bounds, fits, none) (ap (λ (l : List ℕ). front l memory) (sym (p .packs))),
       )
@@ -62,11 +62,11 @@ module _ (alphabet : ℕ) (text : List ℕ) where
   -- and an accepted call packs its text
   pub encode-accepted :
       (memory : List ℕ) (count : ℕ) →
-      encodeAt alphabet text (length memory) ≡ Encoded.Wrote count →
-      Packed alphabet text (take count (encodeMemory alphabet text memory))
+      encodeAt alphabet fold text (length memory) ≡ Encoded.Wrote count →
+      Packed alphabet fold text (take count (encodeMemory alphabet fold text memory))
   unfolding encodeAt encodeWrites encodeMemory
   encode-accepted memory count e =
-      by-cases (known alphabet) (inBounds (length text)) (leb need (length memory)) (firstFrom (numbered alphabet) 0 text) refl refl refl e
+      by-cases (known alphabet) (inBounds (length text)) (leb need (length memory)) (firstFrom (numberedBy fold alphabet) 0 text) refl refl refl e
     where
       answer : Bool → Bool → Bool → First → Encoded
       answer a b c f =
@@ -79,18 +79,18 @@ module _ (alphabet : ℕ) (text : List ℕ) where
           (a b c : Bool) (f : First) →
           known alphabet ≡ a →
           inBounds (length text) ≡ b →
-          firstFrom (numbered alphabet) 0 text ≡ f →
+          firstFrom (numberedBy fold alphabet) 0 text ≡ f →
           answer a b c f ≡ Encoded.Wrote count →
-          Packed alphabet text (take count (front (encodeWrites alphabet text (answer a b c f)) memory))
+          Packed alphabet fold text (take count (front (encodeWrites alphabet fold text (answer a b c f)) memory))
       by-cases true true true First.Nothing o h n q =
           let same : need ≡ count = cc in
-          let len : length (packing (numbered alphabet) text) ≡ count = length-packing (numbered alphabet) text ∙ same in
-          rw (take-at (packing (numbered alphabet) text) (drop (length (packing (numbered alphabet) text)) memory) count len)
+          let len : length (packing (numberedBy fold alphabet) text) ≡ count = length-packing (numberedBy fold alphabet) text ∙ same in
+          rw (take-at (packing (numberedBy fold alphabet) text) (drop (length (packing (numberedBy fold alphabet) text)) memory) count len)
           (record {
             has-alphabet = o;
-            members = none-members (numbered alphabet) 0 text n;
+            members = none-members (numberedBy fold alphabet) 0 text n;
             bounded = leb-true (length text) limit h;
-            counted = length-packing (numbered alphabet) text;
+            counted = length-packing (numberedBy fold alphabet) text;
             packs = refl;
           })
       by-cases true true true (First.At position byte) o h n q = let z : _≡_ {A = ℕ} 0 1 = cc in absurd (omega arith)

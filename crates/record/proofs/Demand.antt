@@ -1,7 +1,7 @@
 -- Demand 3 is proved: one theorem.
 use mathlib.Core.Path.{_∙_}
 use Rattle.alphabet.specs.Names.{kindOf}
-use Rattle.record.specs.EncoderLists.{callsOf, alphabetIn, textIn, bytesIn}
+use Rattle.record.specs.EncoderLists.{callsOf, alphabetIn, foldIn, textIn, bytesIn}
 use Rattle.record.specs.Record.{Record}
 use Rattle.record.proofs.Tallies.{fresh-tally}
 use Rattle.record.proofs.Alike.{alike}
@@ -12,14 +12,14 @@ use Rattle.record.proofs.StreamCounts.{counted, waiting, is-largest, ov
 pub the-record : Record
 the-record =
     record {
-      tallied = λ l. list-run l ∙ fresh-tally (kindOf (alphabetIn l)) (callsOf (l .calls));
+      tallied = λ l. list-run l ∙ fresh-tally (foldIn l) (kindOf (alphabetIn l)) (callsOf (l .calls));
       packs = list-packs;
-      at-once = λ l h e on. once-packed e (alphabetIn l) (textIn l) (bytesIn l) (list-packs l h) (on .by-alphabet) (on .text) (on .room);
+      at-once = λ l h e on. once-packed e (alphabetIn l) (foldIn l) (textIn l) (bytesIn l) (list-packs l h) (on .by-alphabet) (on .by-choice) (on .text) (on .room);
       encodes = once-accepted;
       decoders = gives;
       streams = over-window;
       counts = counted;
       waits = waiting;
       largest = is-largest;
-      alike = λ alphabet. alike (kindOf alphabet);
+      alike = λ alphabet fold. alike fold (kindOf alphabet);
     }

@@ -20,8 +20,8 @@ use Rattle.record.specs.Calls.{Outcome, written, acceptedText, finished}
 use Rattle.record.specs.Runs.{nextEncoder, unlessFinal, run}
 use Rattle.record.specs.Texts.{Packed}
 use Rattle.record.specs.Made.{EncodeCall}
-use Rattle.record.specs.EncoderLists.{CodeCall, updates, finalizes, Ends, Follows, callsOf, outcomesOf, EncoderList, alphabetIn, Finished, textIn, bytesIn}
-use Rattle.record.specs.Record.{alphabetFor, textFor, before, afterwards}
+use Rattle.record.specs.EncoderLists.{CodeCall, updates, finalizes, Ends, Follows, callsOf, outcomesOf, EncoderList, alphabetIn, foldIn, Finished, textIn, bytesIn}
+use Rattle.record.specs.Record.{alphabetFor, foldFor, textFor, before, afterwards}
 use Rattle.record.proofs.Whole.{fresh-packs}
 use Rattle.record.proofs.AtOnce.{encode-packed, encode-accepted}
 
@@ -69,48 +69,49 @@ code-run s (finalizes c ∷ cs) f = step s (f .0) (go (c .result) (λ next. code
             let (self, (out, _)) = c .args in
             record { reply = finalizedReply r; memory = finalizeMemory self (now out) } ∷ unlessFinal r [] (λ next. run next (callsOf cs))
 
--- an accepted `new` was handed a known number and returned a fresh encoder of its kind
-started-fresh : (n : ℕ) (s : SequenceEncoder) → startEncoderAt n ≡ EncoderStarted.Fresh s → (known n ≡ true) × (freshEncoder (kindOf n) ≡ s)
+-- an accepted `new` was handed a known number and returned a fresh encoder of its kind, with the choice
+started-fresh : (n : ℕ) (fold : Bool) (s : SequenceEncoder) → startEncoderAt n fold ≡ EncoderStarted.Fresh s → (known n ≡ true) × (freshEncoder fold (kindOf n) ≡ s)
 unfolding startEncoderAt
-started-fresh n s e = go (known n) e
+started-fresh n fold s e = go (known n) e
   where
     go :
         (b : Bool) →
-        (ask b else EncoderStarted.Refused (by 8 []) then EncoderStarted.Fresh (freshEncoder (kindOf n))) ≡ EncoderStarted.Fresh s →
-        (b ≡ true) × (freshEncoder (kindOf n) ≡ s)
+        (ask b else EncoderStarted.Refused (by 8 []) then EncoderStarted.Fresh (freshEncoder fold (kindOf n))) ≡ EncoderStarted.Fresh s →
+        (b ≡ true) × (freshEncoder fold (kindOf n) ≡ s)
     go true q = (refl, cc)
     go false q = let z : _≡_ {A = ℕ} 0 1 = cc in absurd (omega arith)
 
 module _ (l : EncoderList) where
   fresh-known : known (alphabetIn l) ≡ true
-  fresh-known = started-fresh (alphabetIn l) (l .fresh) (sym (l .new .met) ∙ l .started) .0
+  fresh-known = started-fresh (alphabetIn l) (foldIn l) (l .fresh) (sym (l .new .met) ∙ l .started) .0
 
-  pub list-run : outcomesOf (l .calls) ≡ run (freshEncoder (kindOf (alphabetIn l))) (callsOf (l .calls))
+  pub list-run : outcomesOf (l .calls) ≡ run (freshEncoder (foldIn l) (kindOf (alphabetIn l))) (callsOf (l .calls))
   list-run =
       code-run (l .fresh) (l .calls) (l .follows)
-      ∙ ap (λ (s : SequenceEncoder). run s (callsOf (l .calls))) (sym (started-fresh (alphabetIn l) (l .fresh) (sym (l .new .met) ∙ l .started) .1))
+      ∙ ap (λ (s : SequenceEncoder). run s (callsOf (l .calls))) (sym (started-fresh (alphabetIn l) (foldIn l) (l .fresh) (sym (l .new .met) ∙ l .started) .1))
 
-  pub list-packs : Finished l → Packed (alphabetIn l) (textIn l) (bytesIn l)
+  pub list-packs : Finished l → Packed (alphabetIn l) (foldIn l) (textIn l) (bytesIn l)
   list-packs h =
-      subst (λ (os : List Outcome). Packed (alphabetIn l) (acceptedText (callsOf (l .calls)) os) (written 0 os)) (sym list-run)
-      (fresh-packs (alphabetIn l) fresh-known (callsOf (l .calls)) (ap (finished (callsOf (l .calls))) (sym list-run) ∙ h .ended))
+      subst (λ (os : List Outcome). Packed (alphabetIn l) (foldIn l) (acceptedText (callsOf (l .calls)) os) (written 0 os)) (sym list-run)
+      (fresh-packs (alphabetIn l) (foldIn l) fresh-known (callsOf (l .calls)) (ap (finished (callsOf (l .calls))) (sym list-run) ∙ h .ended))
 
 -- ---- `encode_sequence`
 
 pub once-packed :
-    (e : EncodeCall) (alphabet : ℕ) (text packed : List ℕ) →
-    Packed alphabet text packed →
+    (e : EncodeCall) (alphabet : ℕ) (fold : Bool) (text packed : List ℕ) →
+    Packed alphabet fold text packed →
     alphabetFor e ≡ alphabet →
+    foldFor e ≡ fold →
     textFor e ≡ text →
     length packed ≤ length (before e) →
     (e .result ≡ Encoded.Wrote (length packed)) × (afterwards e ≡ front packed (before e))
-once-packed e alphabet text packed p a t room =
-    let one = encode-packed alphabet text packed (before e) p room in (
-      e .met .0 ∙ ap₂ (λ (x : ℕ) (y : List ℕ). encodeAt x y (length (before e))) a t ∙ one .0,
-      e .met .1 ∙ ap₂ (λ (x : ℕ) (y : List ℕ). encodeMemory x y (before e)) a t ∙ one .1,
+once-packed e alphabet fold text packed p a f t room =
+    let one = encode-packed alphabet fold text packed (before e) p room in (
+      e .met .0 ∙ (λ i. encodeAt (a i) (f i) (t i) (length (before e))) ∙ one .0,
+      e .met .1 ∙ (λ i. encodeMemory (a i) (f i) (t i) (before e)) ∙ one .1,
     )
 
-pub once-accepted : (e : EncodeCall) (count : ℕ) → e .result ≡ Encoded.Wrote count → Packed (alphabetFor e) (textFor e) (take count (afterwards e))
+pub once-accepted : (e : EncodeCall) (count : ℕ) → e .result ≡ Encoded.Wrote count → Packed (alphabetFor e) (foldFor e) (textFor e) (take count (afterwards e))
 once-accepted e count r =
-    subst (λ (m : List ℕ). Packed (alphabetFor e) (textFor e) (take count m)) (sym (e .met .1))
-    (encode-accepted (alphabetFor e) (textFor e) (before e) count (sym (e .met .0) ∙ r))
+    subst (λ (m : List ℕ). Packed (alphabetFor e) (foldFor e) (textFor e) (take count m)) (sym (e .met .1))
+    (encode-accepted (alphabetFor e) (foldFor e) (textFor e) (before e) count (sym (e .met .0) ∙ r))

@@ -1,8 +1,8 @@
--- The claim leaves no list out: whatever pieces and memory a list of calls names, for each known alphabet number there is a list that the contracts allow and
--- in which these calls are made, those behind an accepted `finalize` excepted; and it is a finished one wherever the definitions accept a `finalize`. That the
--- code meets its contracts is proved with the functions, not here.
+-- The claim leaves no list out: whatever pieces and memory a list of calls names, for each known alphabet number and either choice to fold there is a list
+-- that the contracts allow and in which these calls are made, those behind an accepted `finalize` excepted; and it is a finished one wherever the definitions
+-- accept a `finalize`. That the code meets its contracts is proved with the functions, not here.
 use mathlib.Core.Path.{_≡_, refl, sym, ap, ap₂, _∙_}
-use mathlib.Core.Bool.{true, cond}
+use mathlib.Core.Bool.{Bool, true, cond}
 use mathlib.Core.List.{List, [], _∷_, _++_}
 use Prim.Native.Nat.{ℕ}
 use denote.Ref.{RefT}
@@ -16,7 +16,7 @@ use Rattle.packing.specs.declared.encoder.Finalized.{Finalized}
 use Rattle.record.specs.Calls.{Call, update, finalize, Outcome, isAccepted, acceptedText, finished}
 use Rattle.record.specs.Runs.{nextEncoder, unlessFinal, run}
 use Rattle.record.specs.Made.{NewCall, UpdateCall, FinalizeCall}
-use Rattle.record.specs.EncoderLists.{CodeCall, updates, finalizes, Ends, Follows, callsOf, outcomesOf, EncoderList, alphabetIn, Finished, textIn}
+use Rattle.record.specs.EncoderLists.{CodeCall, updates, finalizes, Ends, Follows, callsOf, outcomesOf, EncoderList, alphabetIn, foldIn, Finished, textIn}
 use Rattle.record.proofs.Whole.{accepted-nil}
 
 -- ---- a call for any state, piece and memory; of lifetimes and places in memory the contracts say nothing
@@ -94,30 +94,31 @@ made-calls s (finalize memory ∷ cs) =
 
 -- ---- the list, from an accepted `new`
 
-abbrev made-new : ℕ → NewCall
-made-new alphabet = record { κs = tt; args = (alphabet, tt); result = startEncoderAt alphabet; exit = (alphabet, tt); met = refl }
+abbrev made-new : ℕ → Bool → NewCall
+made-new alphabet fold = record { κs = tt; args = (alphabet, (fold, tt)); result = startEncoderAt alphabet fold; exit = (alphabet, (fold, tt)); met = refl }
 
-new-accepted : (alphabet : ℕ) → known alphabet ≡ true → startEncoderAt alphabet ≡ EncoderStarted.Fresh (freshEncoder (kindOf alphabet))
+new-accepted : (alphabet : ℕ) (fold : Bool) → known alphabet ≡ true → startEncoderAt alphabet fold ≡ EncoderStarted.Fresh (freshEncoder fold (kindOf alphabet))
 unfolding startEncoderAt
-new-accepted alphabet o = rw o
+new-accepted alphabet fold o = rw o
 
 pub every-list :
-    (alphabet : ℕ) →
+    (alphabet : ℕ) (fold : Bool) →
     known alphabet ≡ true →
     (cs : List Call) →
     (l : EncoderList)
     × ((alphabetIn l ≡ alphabet)
-    × ((callsOf (l .calls) ≡ take (length (run (freshEncoder (kindOf alphabet)) cs)) cs)
-    × (outcomesOf (l .calls) ≡ run (freshEncoder (kindOf alphabet)) cs)))
-every-list alphabet o cs = (
+    × ((foldIn l ≡ fold)
+    × ((callsOf (l .calls) ≡ take (length (run (freshEncoder fold (kindOf alphabet)) cs)) cs)
+    × (outcomesOf (l .calls) ≡ run (freshEncoder fold (kindOf alphabet)) cs))))
+every-list alphabet fold o cs = (
   record {
-    new = made-new alphabet;
-    fresh = freshEncoder (kindOf alphabet);
-    started = new-accepted alphabet o;
-    calls = made (freshEncoder (kindOf alphabet)) cs;
-    follows = made-follows (freshEncoder (kindOf alphabet)) cs;
+    new = made-new alphabet fold;
+    fresh = freshEncoder fold (kindOf alphabet);
+    started = new-accepted alphabet fold o;
+    calls = made (freshEncoder fold (kindOf alphabet)) cs;
+    follows = made-follows (freshEncoder fold (kindOf alphabet)) cs;
   },
-  (refl, (made-calls (freshEncoder (kindOf alphabet)) cs, made-outcomes (freshEncoder (kindOf alphabet)) cs)),
+  (refl, (refl, (made-calls (freshEncoder fold (kindOf alphabet)) cs, made-outcomes (freshEncoder fold (kindOf alphabet)) cs))),
 )
 
 -- ---- the calls that are not made, behind an accepted `finalize`, count for nothing
@@ -155,16 +156,20 @@ made-text s (finalize memory ∷ cs) = go (finalizeAt s (length memory)) (λ nex
 
 -- every list of calls of which a `finalize` is accepted is a finished one
 pub every-finished :
-    (alphabet : ℕ) →
+    (alphabet : ℕ) (fold : Bool) →
     known alphabet ≡ true →
     (cs : List Call) →
-    finished cs (run (freshEncoder (kindOf alphabet)) cs) ≡ true →
-    (l : EncoderList) × (Finished l × ((alphabetIn l ≡ alphabet) × (textIn l ≡ acceptedText cs (run (freshEncoder (kindOf alphabet)) cs))))
-every-finished alphabet o cs h =
-    let l = every-list alphabet o cs in (
+    finished cs (run (freshEncoder fold (kindOf alphabet)) cs) ≡ true →
+    (l : EncoderList)
+    × (Finished l × ((alphabetIn l ≡ alphabet) × ((foldIn l ≡ fold) × (textIn l ≡ acceptedText cs (run (freshEncoder fold (kindOf alphabet)) cs)))))
+every-finished alphabet fold o cs h =
+    let s : SequenceEncoder = freshEncoder fold (kindOf alphabet) in
+    let l = every-list alphabet fold o cs in
+    let calls = l .1 .1 .1 .0 in
+    let outcomes = l .1 .1 .1 .1 in (
       l .0,
       (
-        record { ended = ap₂ finished (l .1 .1 .0) (l .1 .1 .1) ∙ made-finished (freshEncoder (kindOf alphabet)) cs ∙ h },
-        (l .1 .0, ap₂ acceptedText (l .1 .1 .0) (l .1 .1 .1) ∙ made-text (freshEncoder (kindOf alphabet)) cs),
+        record { ended = ap₂ finished calls outcomes ∙ made-finished s cs ∙ h },
+        (l .1 .0, (l .1 .1 .0, ap₂ acceptedText calls outcomes ∙ made-text s cs)),
       ),
     )

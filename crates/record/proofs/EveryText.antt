@@ -1,5 +1,5 @@
--- The claim leaves no text out: every text of members, at most 2^60 of them, has a finished list, and whatever text and memory are named, `encode_sequence` has
--- a call with them.
+-- The claim leaves no text out: every text of members by either choice to fold, at most 2^60 of them, has a finished list with that choice, and whatever text,
+-- choice and memory are named, `encode_sequence` has a call with them.
 use mathlib.Core.Path.{_≡_, refl, ap, _∙_}
 use mathlib.Core.Bool.{Bool, true, false, cond}
 use mathlib.Core.List.{List, [], _∷_, _++_, append-nil}
@@ -12,37 +12,42 @@ use lib.ListN.{length, drop, replicate, length-replicate}
 use Rattle.bits.specs.Packing.{bytesFor}
 use Rattle.alphabet.specs.Questions.{limit, inBounds, accepted}
 use Rattle.alphabet.specs.declared.kind.AlphabetType.{AlphabetType}
-use Rattle.alphabet.specs.Symbols.{Coding, coding}
-use Rattle.alphabet.specs.Names.{known, kindOf, numbered}
+use Rattle.alphabet.specs.Symbols.{Coding, codingBy}
+use Rattle.alphabet.specs.Names.{known, kindOf, numberedBy}
 use Rattle.packing.specs.Encode.{freshEncoder, encodeAt, encodeMemory}
 use Rattle.record.specs.Calls.{Call, update, finalize, isAccepted, acceptedText, finished}
 use Rattle.record.specs.Texts.{Members}
 use Rattle.record.specs.Runs.{run}
 use Rattle.record.specs.Tally.{Turn, stay, bytesFilled, textPacked, membersAhead, completes, updateTurn, finalizeTurn, tally}
 use Rattle.record.specs.Made.{EncodeCall}
-use Rattle.record.specs.EncoderLists.{EncoderList, alphabetIn, Finished, textIn, bytesIn}
-use Rattle.record.specs.Record.{alphabetFor, textFor, before, AtOnce}
+use Rattle.record.specs.EncoderLists.{EncoderList, alphabetIn, foldIn, Finished, textIn, bytesIn}
+use Rattle.record.specs.Record.{alphabetFor, foldFor, textFor, before, AtOnce}
 use Rattle.record.proofs.Tallies.{fresh-tally}
 use Rattle.record.proofs.Every.{at-some, every-finished}
 
 -- ---- `encode_sequence`
 
-abbrev made-encode : ℕ → List ℕ → List ℕ → EncodeCall
-made-encode alphabet text memory =
+abbrev made-encode : ℕ → Bool → List ℕ → List ℕ → EncodeCall
+made-encode alphabet fold text memory =
     record {
       κs = ([], ([], tt));
-      args = (alphabet, (at-some text, (at-some memory, tt)));
-      result = encodeAt alphabet text (length memory);
-      exit = (alphabet, (at-some text, (at-some (encodeMemory alphabet text memory), tt)));
+      args = (alphabet, (fold, (at-some text, (at-some memory, tt))));
+      result = encodeAt alphabet fold text (length memory);
+      exit = (alphabet, (fold, (at-some text, (at-some (encodeMemory alphabet fold text memory), tt))));
       met = (refl, refl);
     }
 
-pub every-encode : (alphabet : ℕ) (text memory : List ℕ) → (e : EncodeCall) × ((alphabetFor e ≡ alphabet) × ((textFor e ≡ text) × (before e ≡ memory)))
-every-encode alphabet text memory = (made-encode alphabet text memory, (refl, (refl, refl)))
+pub every-encode :
+    (alphabet : ℕ) (fold : Bool) (text memory : List ℕ) →
+    (e : EncodeCall) × ((alphabetFor e ≡ alphabet) × ((foldFor e ≡ fold) × ((textFor e ≡ text) × (before e ≡ memory))))
+every-encode alphabet fold text memory = (made-encode alphabet fold text memory, (refl, (refl, (refl, refl))))
 
 -- with the pieces of a list, joined
 pub every-at-once : (l : EncoderList) (memory : List ℕ) → length (bytesIn l) ≤ length memory → (e : EncodeCall) × (AtOnce l e × (before e ≡ memory))
-every-at-once l memory room = (made-encode (alphabetIn l) (textIn l) memory, (record { by-alphabet = refl; text = refl; room = room }, refl))
+every-at-once l memory room = (
+  made-encode (alphabetIn l) (foldIn l) (textIn l) memory,
+  (record { by-alphabet = refl; by-choice = refl; text = refl; room = room }, refl),
+)
 
 -- ---- a text of members: one `update` with all of it, then `finalize`
 
@@ -51,9 +56,9 @@ unfolding membersAhead
 ahead-all A [] m = refl
 ahead-all A (x ∷ text) m = rw (m 0 (omega arith)) (ap suc (ahead-all A text (λ i h. m (suc i) (omega arith))))
 
-module _ (k : AlphabetType) (text : List ℕ) (all : Members (coding k) text) (bounded : length text ≤ limit) where
+module _ (fold : Bool) (k : AlphabetType) (text : List ℕ) (all : Members (codingBy fold k) text) (bounded : length text ≤ limit) where
   abbrev A : Coding
-  A = coding k
+  A = codingBy fold k
 
   abbrev memory : List ℕ
   memory = replicate (bytesFor (length text * A .width)) 0
@@ -101,18 +106,19 @@ module _ (k : AlphabetType) (text : List ℕ) (all : Members (coding k) text) (b
   unfolding tally acceptedText
   tally-text = ap (λ (b : Bool). cond b text [] ++ []) taken ∙ append-nil text
 
-  plan-ends : finished plan (run (freshEncoder k) plan) ≡ true
-  plan-ends = ap (finished plan) (fresh-tally k plan) ∙ tally-ends
+  plan-ends : finished plan (run (freshEncoder fold k) plan) ≡ true
+  plan-ends = ap (finished plan) (fresh-tally fold k plan) ∙ tally-ends
 
-  plan-text : acceptedText plan (run (freshEncoder k) plan) ≡ text
-  plan-text = ap (acceptedText plan) (fresh-tally k plan) ∙ tally-text
+  plan-text : acceptedText plan (run (freshEncoder fold k) plan) ≡ text
+  plan-text = ap (acceptedText plan) (fresh-tally fold k plan) ∙ tally-text
 
 pub every-text :
-    (alphabet : ℕ) (text : List ℕ) →
+    (alphabet : ℕ) (fold : Bool) (text : List ℕ) →
     known alphabet ≡ true →
-    Members (numbered alphabet) text →
+    Members (numberedBy fold alphabet) text →
     length text ≤ limit →
-    (l : EncoderList) × (Finished l × ((alphabetIn l ≡ alphabet) × (textIn l ≡ text)))
-every-text alphabet text named all bounded =
-    let l = every-finished alphabet named (plan (kindOf alphabet) text all bounded) (plan-ends (kindOf alphabet) text all bounded) in
-    (l .0, (l .1 .0, (l .1 .1 .0, l .1 .1 .1 ∙ plan-text (kindOf alphabet) text all bounded)))
+    (l : EncoderList) × (Finished l × ((alphabetIn l ≡ alphabet) × ((foldIn l ≡ fold) × (textIn l ≡ text))))
+every-text alphabet fold text named all bounded =
+    let k : AlphabetType = kindOf alphabet in
+    let l = every-finished alphabet fold named (plan fold k text all bounded) (plan-ends fold k text all bounded) in
+    (l .0, (l .1 .0, (l .1 .1 .0, (l .1 .1 .1 .0, l .1 .1 .1 .1 ∙ plan-text fold k text all bounded))))

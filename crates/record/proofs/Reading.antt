@@ -17,8 +17,8 @@ use Rattle.packing.specs.Range.{rangeAt}
 use Rattle.windows.specs.Window.{readAt, readMemory, coveredAt, coveredMemory}
 use Rattle.windows.proofs.Given.{Serves, read-told, read-left, covered-told, covered-left}
 use Rattle.record.specs.Texts.{Members, Packed}
-use Rattle.record.specs.EncoderLists.{EncoderList, alphabetIn, textIn, bytesIn}
-use Rattle.record.specs.Decoders.{codingIn, Window, Lent, DecoderCall, at-offset, substring, string, covered, two-bit, three-bit, rolling, Handed, handed, SetTo, Set, Gives}
+use Rattle.record.specs.EncoderLists.{EncoderList, alphabetIn, foldIn, codingIn, textIn, bytesIn}
+use Rattle.record.specs.Decoders.{Window, Lent, DecoderCall, at-offset, substring, string, covered, two-bit, three-bit, rolling, Handed, handed, SetTo, Set, Gives}
 use Rattle.record.proofs.Alike.{member-digit}
 use Rattle.record.proofs.Encoders.{list-packs}
 
@@ -53,7 +53,7 @@ module _ (l : EncoderList) (w : Window l) where
       range-names (w .s) (w .e) (A .width) (w .from) (w .to)
       (sym (λ i. rangeAt (w .asked .0 i) (w .asked .1 i) (w .asked .2 i)) ∙ sym (w .range .met) ∙ w .named)
 
-  pub packed-in : Packed (alphabetIn l) (textIn l) (bytesIn l)
+  pub packed-in : Packed (alphabetIn l) (foldIn l) (textIn l) (bytesIn l)
   packed-in = list-packs l (w .finished)
 
   pub lent-serves : (offset : ℕ) (lent : List ℕ) → offset ≤ w .from → Lent l w offset lent → Serves A (textIn l) lent offset (w .s) (w .e)
@@ -79,11 +79,11 @@ module _ (l : EncoderList) (w : Window l) where
           told =
               told
               ∙ (λ i. readAt (set .by-alphabet i) (set .at-byte i) (set .at-start i) (set .at-end i) (length (h .memory)))
-              ∙ read-told (alphabetIn l) (textIn l) (h .lent) from (w .s) (w .e) serves (packed-in .has-alphabet) (h .memory) (set .room);
+              ∙ read-told (foldIn l) (alphabetIn l) (textIn l) (h .lent) from (w .s) (w .e) serves (packed-in .has-alphabet) (h .memory) (set .room);
           left =
               left
               ∙ (λ i. readMemory (set .by-alphabet i) (h .lent) (set .at-byte i) (set .at-start i) (set .at-end i) (h .memory))
-              ∙ read-left (alphabetIn l) (textIn l) (h .lent) from (w .s) (w .e) serves (packed-in .has-alphabet) (h .memory) (set .room);
+              ∙ read-left (foldIn l) (alphabetIn l) (textIn l) (h .lent) from (w .s) (w .e) serves (packed-in .has-alphabet) (h .memory) (set .room);
         }
 
     -- the covered read
@@ -98,11 +98,11 @@ module _ (l : EncoderList) (w : Window l) where
           told =
               told
               ∙ (λ i. coveredAt (set .by-alphabet i) (h .lent) (set .at-byte i) (set .at-start i) (set .at-end i) (length (h .memory)))
-              ∙ covered-told (alphabetIn l) (textIn l) (h .lent) from (w .s) (w .e) serves (packed-in .has-alphabet) (h .memory) (set .room) ends;
+              ∙ covered-told (foldIn l) (alphabetIn l) (textIn l) (h .lent) from (w .s) (w .e) serves (packed-in .has-alphabet) (h .memory) (set .room) ends;
           left =
               left
               ∙ (λ i. coveredMemory (set .by-alphabet i) (h .lent) (set .at-byte i) (set .at-start i) (set .at-end i) (h .memory))
-              ∙ covered-left (alphabetIn l) (textIn l) (h .lent) from (w .s) (w .e) serves (packed-in .has-alphabet) (h .memory) (set .room) ends;
+              ∙ covered-left (foldIn l) (alphabetIn l) (textIn l) (h .lent) from (w .s) (w .e) serves (packed-in .has-alphabet) (h .memory) (set .room) ends;
         }
 
   -- each decoder, by name

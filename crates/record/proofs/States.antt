@@ -14,7 +14,7 @@ use Rattle.bits.proofs.Words.{word-lt, word-ext, bit-lt}
 use Rattle.bits.proofs.Appended.{hand-append}
 use Rattle.alphabet.specs.declared.kind.AlphabetType.{AlphabetType}
 use Rattle.alphabet.specs.Questions.{limit}
-use Rattle.alphabet.specs.Symbols.{Coding, coding}
+use Rattle.alphabet.specs.Symbols.{Coding, codingBy}
 use Rattle.alphabet.proofs.Laws.{lawful}
 use Rattle.packing.specs.declared.first.First.{First}
 use Rattle.packing.specs.declared.encoder.SequenceEncoder.{SequenceEncoder}
@@ -24,20 +24,6 @@ use Rattle.packing.proofs.Ends.{sound-rest}
 -- the bits of a text's digits, one after another
 abbrev pub textBits : Coding → List ℕ → ℕ → ℕ
 textBits A text = bitAt (A .width) (at (digitsOf A text))
-
-unfoldable pub stateOf : AlphabetType → List ℕ → SequenceEncoder
-stateOf k text =
-    record {
-      alphabet = k;
-      seen = length text;
-      bits = length text * coding k .width % 8;
-      pending = word (textBits (coding k) text) (length text * coding k .width / 8 * 8) (length text * coding k .width % 8);
-      first = firstFrom (coding k) 0 text;
-    }
-
-pub fresh-state : (k : AlphabetType) → freshEncoder k ≡ stateOf k []
-unfolding freshEncoder stateOf firstFrom word
-fresh-state k = rw (zero-mul (coding k .width))
 
 -- ---- the first non-member
 
@@ -63,62 +49,80 @@ module _ (A : Coding) where
       go true e ih = ih
       go false e ih = ap (λ (c : Bool). not c && ltb i n) e ∙ lt-ltb i n (omega arith)
 
--- ---- the state is sound
+-- ---- the state of a text, by an alphabet and a choice to fold
 
-pub state-sound : (k : AlphabetType) (text : List ℕ) → length text ≤ limit → soundEncoder (stateOf k text) ≡ true
-unfolding stateOf
-state-sound k text h =
-    sym
-    (sound-rest (stateOf k text) h refl
-    (word-lt (textBits (coding k) text) (bit-lt (coding k .width) (at (digitsOf (coding k) text))) (length text * coding k .width / 8 * 8) (length text * coding k .width % 8))
-    true (sym (first-sound (coding k) 0 (length text) text (omega arith))))
-
--- ---- a piece more
-
-module _ (k : AlphabetType) (text piece : List ℕ) where
+module _ (fold : Bool) (k : AlphabetType) where
   abbrev A : Coding
-  A = coding k
+  A = codingBy fold k
 
-  abbrev n : ℕ
-  n = length text * coding k .width
-
-  pub length-both : length (text ++ piece) * coding k .width ≡ length text * coding k .width + length piece * coding k .width
-  length-both = ap (λ (m : ℕ). m * coding k .width) (length-append text piece) ∙ add-mul (length text) (length piece) (coding k .width)
-
-  -- the bits at hand are those of the longer text, from the first byte that the shorter does not fill
-  pub piece-bits : (i : ℕ) → pieceBits (stateOf k text) piece i ≡ textBits (coding k) (text ++ piece) (length text * coding k .width / 8 * 8 + i)
-  unfolding pieceBits stateOf
-  piece-bits i =
-      let len : length (digitsOf A text) * A .width ≡ n / 8 * 8 + n % 8 = ap (λ (m : ℕ). m * A .width) (length-map text (digitOf A)) ∙ omega arith in
-      hand-append (A .width) (lawful k .some-bits) (digitsOf A text) (digitsOf A piece) (n / 8) (n % 8) len i
-      ∙ ap (λ (l : List ℕ). bitAt (A .width) (at l) (n / 8 * 8 + i)) (sym (map-append (digitOf A) text piece))
-
-  pub state-updated : updated (stateOf k text) piece ≡ stateOf k (text ++ piece)
-  unfolding updated stateOf pieceBitCount
-  state-updated = λ i.
+  unfoldable pub stateOf : List ℕ → SequenceEncoder
+  stateOf text =
       record {
         alphabet = k;
-        seen = sym (length-append text piece) i;
-        bits = left i;
-        pending = value i;
-        first = firsts i;
+        seen = length text;
+        bits = length text * A .width % 8;
+        pending = word (textBits A text) (length text * A .width / 8 * 8) (length text * A .width % 8);
+        first = firstFrom A 0 text;
+        fold = fold;
       }
-    where
-      c : ℕ
-      c = length text * coding k .width % 8 + length piece * coding k .width
 
-      left : c % 8 ≡ length (text ++ piece) * coding k .width % 8
-      left = omega (arith, length-both)
+  pub fresh-state : freshEncoder fold k ≡ stateOf []
+  unfolding freshEncoder stateOf firstFrom word
+  fresh-state = rw (zero-mul (A .width))
 
-      firsts : orFirst (firstFrom (coding k) 0 text) (firstFrom (coding k) (length text) piece) ≡ firstFrom (coding k) 0 (text ++ piece)
-      firsts = sym (first-append (coding k) 0 text piece ∙ ap (λ (j : ℕ). orFirst (firstFrom (coding k) 0 text) (firstFrom (coding k) j piece)) (zero-add (length text)))
+  -- it is sound
+  pub state-sound : (text : List ℕ) → length text ≤ limit → soundEncoder (stateOf text) ≡ true
+  unfolding stateOf
+  state-sound text h =
+      sym
+      (sound-rest (stateOf text) h refl
+      (word-lt (textBits A text) (bit-lt (A .width) (at (digitsOf A text))) (length text * A .width / 8 * 8) (length text * A .width % 8)) true
+      (sym (first-sound A 0 (length text) text (omega arith))))
 
-      value :
-          word (pieceBits (stateOf k text) piece) (c / 8 * 8) (c % 8)
-          ≡ word (textBits (coding k) (text ++ piece)) (length (text ++ piece) * coding k .width / 8 * 8) (length (text ++ piece) * coding k .width % 8)
-      value =
-          word-ext (pieceBits (stateOf k text) piece) (textBits (coding k) (text ++ piece)) (c / 8 * 8) (length (text ++ piece) * coding k .width / 8 * 8) (c % 8)
-          (λ j h.
-          let place : length text * coding k .width / 8 * 8 + (c / 8 * 8 + j) ≡ length (text ++ piece) * coding k .width / 8 * 8 + j = omega (arith, length-both) in
-          piece-bits (c / 8 * 8 + j) ∙ ap (textBits (coding k) (text ++ piece)) place)
-          ∙ ap (word (textBits (coding k) (text ++ piece)) (length (text ++ piece) * coding k .width / 8 * 8)) left
+  -- ---- a piece more
+
+  module _ (text piece : List ℕ) where
+    abbrev n : ℕ
+    n = length text * A .width
+
+    pub length-both : length (text ++ piece) * A .width ≡ length text * A .width + length piece * A .width
+    length-both = ap (λ (m : ℕ). m * A .width) (length-append text piece) ∙ add-mul (length text) (length piece) (A .width)
+
+    -- the bits at hand are those of the longer text, from the first byte that the shorter does not fill
+    pub piece-bits : (i : ℕ) → pieceBits (stateOf text) piece i ≡ textBits A (text ++ piece) (length text * A .width / 8 * 8 + i)
+    unfolding pieceBits stateOf
+    piece-bits i =
+        let len : length (digitsOf A text) * A .width ≡ n / 8 * 8 + n % 8 = ap (λ (m : ℕ). m * A .width) (length-map text (digitOf A)) ∙ omega arith in
+        hand-append (A .width) (lawful fold k .some-bits) (digitsOf A text) (digitsOf A piece) (n / 8) (n % 8) len i
+        ∙ ap (λ (l : List ℕ). bitAt (A .width) (at l) (n / 8 * 8 + i)) (sym (map-append (digitOf A) text piece))
+
+    pub state-updated : updated (stateOf text) piece ≡ stateOf (text ++ piece)
+    unfolding updated stateOf pieceBitCount
+    state-updated = λ i.
+        record {
+          alphabet = k;
+          seen = sym (length-append text piece) i;
+          bits = left i;
+          pending = value i;
+          first = firsts i;
+          fold = fold;
+        }
+      where
+        c : ℕ
+        c = length text * A .width % 8 + length piece * A .width
+
+        left : c % 8 ≡ length (text ++ piece) * A .width % 8
+        left = omega (arith, length-both)
+
+        firsts : orFirst (firstFrom A 0 text) (firstFrom A (length text) piece) ≡ firstFrom A 0 (text ++ piece)
+        firsts = sym (first-append A 0 text piece ∙ ap (λ (j : ℕ). orFirst (firstFrom A 0 text) (firstFrom A j piece)) (zero-add (length text)))
+
+        value :
+            word (pieceBits (stateOf text) piece) (c / 8 * 8) (c % 8)
+            ≡ word (textBits A (text ++ piece)) (length (text ++ piece) * A .width / 8 * 8) (length (text ++ piece) * A .width % 8)
+        value =
+            word-ext (pieceBits (stateOf text) piece) (textBits A (text ++ piece)) (c / 8 * 8) (length (text ++ piece) * A .width / 8 * 8) (c % 8)
+            (λ j h.
+            let place : length text * A .width / 8 * 8 + (c / 8 * 8 + j) ≡ length (text ++ piece) * A .width / 8 * 8 + j = omega (arith, length-both) in
+            piece-bits (c / 8 * 8 + j) ∙ ap (textBits A (text ++ piece)) place)
+            ∙ ap (word (textBits A (text ++ piece)) (length (text ++ piece) * A .width / 8 * 8)) left

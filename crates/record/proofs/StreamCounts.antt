@@ -33,8 +33,8 @@ use Rattle.streaming.proofs.AllCalls.{MostInAll, reached-most}
 use Rattle.streaming.proofs.Ending.{end-is, end-window}
 use Rattle.record.specs.StreamLists.{stateFor, sourceFor, memoryFor, Streaming, StreamList, alphabetOf, skipOf, budgetOf}
 use Rattle.record.specs.Made.{ReadCall}
-use Rattle.record.specs.EncoderLists.{EncoderList, alphabetIn, textIn}
-use Rattle.record.specs.Decoders.{codingIn, Window}
+use Rattle.record.specs.EncoderLists.{EncoderList, alphabetIn, foldIn, codingIn, textIn}
+use Rattle.record.specs.Decoders.{Window}
 use Rattle.record.specs.Record.{codingOf, placeIn, basesIn, takenIn, Counted, GoesOn, wroteBy, Largest, Streams, StreamGives}
 use Rattle.record.proofs.Reading.{named-range, lent-serves}
 use Rattle.record.proofs.Streamed.{CallsOn, Comes, comes-fresh, no-bases, none-taken, length-bases, call, source-is, answers, next-taken}
@@ -248,13 +248,14 @@ module _ (l : EncoderList) (w : Window l) (t : StreamList) (set : Streams l w t)
   within = omega (arith, list-comes t .reach .within, set .budgets)
 
   pub over-window : StreamGives l w t
+  unfolding basesBetween
   over-window =
       record {
         wrote =
             counted t .wrote
             ∙ (λ i. basesBetween (numbered (set .by-alphabet i)) (set .skips i) (set .budgets i) (t .lent) 0 k)
             ∙ bases-window (codingIn l) (t .lent) (w .from) (w .s * codingIn l .width % 8) (w .s) n k (omega (arith, named-range l w .0))
-            ∙ window-first (alphabetIn l) (textIn l) (t .lent) (w .from) (w .s) (w .e) (lent-serves l w (w .from) (t .lent) (omega arith) (set .lends)) k
+            ∙ window-first (foldIn l) (alphabetIn l) (textIn l) (t .lent) (w .from) (w .s) (w .e) (lent-serves l w (w .from) (t .lent) (omega arith) (set .lends)) k
             (omega (arith, within, w .some))
             ∙ ap (map (codingIn l .canon)) (sym (take-take k n (drop (w .s) (textIn l)) within))
             ∙ sym (take-map (codingIn l .canon) k (take n (drop (w .s) (textIn l))));

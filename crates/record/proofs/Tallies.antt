@@ -15,7 +15,7 @@ use Rattle.bits.specs.Memory.{front}
 use Rattle.bits.proofs.Appended.{length-cut, cut-moved, drop-cut, part-cut}
 use Rattle.alphabet.specs.declared.kind.AlphabetType.{AlphabetType}
 use Rattle.alphabet.specs.Questions.{ask_else_then_, by, limit, inBounds, accepted, refused}
-use Rattle.alphabet.specs.Symbols.{Coding, coding}
+use Rattle.alphabet.specs.Symbols.{Coding, codingBy}
 use Rattle.packing.specs.declared.first.First.{First}
 use Rattle.packing.specs.declared.encoder.SequenceEncoder.{SequenceEncoder}
 use Rattle.packing.specs.declared.encoder.Updated.{Updated}
@@ -63,186 +63,193 @@ module _ (A : Coding) where
           ih ∙ ap₂ (λ (b : Bool) (j : ℕ). cond b First.Nothing (First.At j (at text a))) (sym (eqb·suc-suc a (length text))) next
       go false ih = rw (eqb·zero-suc (length text)) (ap (λ (j : ℕ). First.At j x) (sym (add-zero i)))
 
--- ---- `update`
-
-module _ (k : AlphabetType) (text piece : List ℕ) where
-  count-same : pieceBitCount (stateOf k text) (length piece) / 8 ≡ completes (coding k) text piece
-  unfolding pieceBitCount stateOf completes
-  count-same = omega (arith, add-mul (length text) (length piece) (coding k .width))
-
-  bytes-same :
-      cut 8 (pieceBits (stateOf k text) piece) 0 (completes (coding k) text piece)
-      ≡ take (completes (coding k) text piece) (drop (bytesFilled (coding k) (length text)) (textPacked (coding k) (text ++ piece)))
-  unfolding completes
-  bytes-same =
-      let A : Coding = coding k in
-      let f : ℕ = bytesFilled A (length text) in
-      let c : ℕ = completes A text piece in
-      let fits : f + c ≤ bytesFor (length (text ++ piece) * A .width) = omega (arith, length-both k text piece, add-mul (length text) (length piece) (A .width)) in
-      cut-moved 8 (pieceBits (stateOf k text) piece) (textBits A (text ++ piece)) 0 (f * 8) c
-      (λ i h. ap (pieceBits (stateOf k text) piece) (zero-add i) ∙ piece-bits k text piece i)
-      ∙ sym (part-cut 8 (textBits A (text ++ piece)) f c (bytesFor (length (text ++ piece) * A .width)) fits)
-      ∙ ap (λ (l : List ℕ). take c (drop f l)) (sym (same-packing A (text ++ piece) ∙ packing-cut A (text ++ piece)))
-
-  update-answer :
-      (room : ℕ) →
-      length text ≤ limit →
-      updateAt (stateOf k text) piece room
-      ≡ (ask inBounds (length text + length piece) else Updated.Refused (by 2 []) (stateOf k text) then
-      ask leb (completes (coding k) text piece) room else Updated.Refused (by 4 []) (stateOf k text) then
-      Updated.Wrote (completes (coding k) text piece) (stateOf k (text ++ piece)))
-  unfolding updateAt stateOf
-  update-answer room h = rw (state-sound k text h, count-same, state-updated k text piece)
-
--- the rest of a list goes on alike after an `update`
-step-update :
-    (k : AlphabetType) (text piece memory : List ℕ) (cs : List Call) →
-    length text ≤ limit →
-    ((u : List ℕ) → length u ≤ limit → run (stateOf k u) cs ≡ tally (coding k) u cs) →
-    run (stateOf k text) (update piece memory ∷ cs) ≡ tally (coding k) text (update piece memory ∷ cs)
-unfolding run tally updateMemory updateWrites updateTurn
-step-update k text piece memory cs h go =
-    ap after (update-answer k text piece (length memory) h) ∙ by-cases (inBounds (length text + length piece)) (leb (completes (coding k) text piece) (length memory)) refl
-  where
-    after : Updated → List Outcome
-    after r = record { reply = updatedReply r; memory = front (updateWrites (stateOf k text) piece r) memory } ∷ run (nextEncoder r) cs
-
-    next : Turn → List Outcome
-    next turn = shown turn memory ∷ tally (coding k) (turn .text) cs
-
-    by-cases :
-        (a b : Bool) →
-        inBounds (length text + length piece) ≡ a →
-        after
-        (ask a else Updated.Refused (by 2 []) (stateOf k text) then
-        ask b else Updated.Refused (by 4 []) (stateOf k text) then
-        Updated.Wrote (completes (coding k) text piece) (stateOf k (text ++ piece)))
-        ≡ next
-        (ask a else stay text (refused 2 []) then
-        ask b else stay text (refused 4 []) then
-        record {
-          reply = accepted (completes (coding k) text piece ∷ []);
-          bytes = take (completes (coding k) text piece) (drop (bytesFilled (coding k) (length text)) (textPacked (coding k) (text ++ piece)));
-          text = text ++ piece;
-        })
-    by-cases true true e =
-        ap₂ (λ (w : List ℕ) (os : List Outcome). record { reply = accepted (completes (coding k) text piece ∷ []); memory = front w memory } ∷ os) (bytes-same k text piece)
-        (go (text ++ piece) (omega (arith, length-append text piece, leb-true (length text + length piece) limit e)))
-    by-cases true false e = ap (λ (os : List Outcome). record { reply = refused 4 []; memory = front [] memory } ∷ os) (go text h)
-    by-cases false b e = ap (λ (os : List Outcome). record { reply = refused 2 []; memory = front [] memory } ∷ os) (go text h)
-
--- ---- `finalize`
-
-module _ (k : AlphabetType) (text : List ℕ) where
-  abbrev pends : ℕ
-  pends = length text * coding k .width % 8
-
-  last-same :
-      (pends ≡ 0 → ⊥) → cut 8 (pieceBits (stateOf k text) []) 0 1 ≡ drop (bytesFilled (coding k) (length text)) (textPacked (coding k) text)
-  last-same z =
-      let A : Coding = coding k in
-      let f : ℕ = bytesFilled A (length text) in
-      let one-more : bytesFor (length text * A .width) ≡ f + 1 = omega arith in
-      cut-moved 8 (pieceBits (stateOf k text) []) (textBits A text) 0 (f * 8) 1
-      (λ i h. ap (pieceBits (stateOf k text) []) (zero-add i) ∙ piece-bits k text [] i ∙ ap (λ (l : List ℕ). textBits A l (f * 8 + i)) (append-nil text))
-      ∙ sym (drop-cut 8 (textBits A text) f 1)
-      ∙ ap (λ (n : ℕ). drop f (cut 8 (textBits A text) 0 n)) (sym one-more)
-      ∙ ap (drop f) (sym (same-packing A text ∙ packing-cut A text))
-
-  finalize-answer :
-      (room : ℕ) →
-      length text ≤ limit →
-      finalizeAt (stateOf k text) room
-      ≡ (ask eqb (membersAhead (coding k) text) (length text)
-      else Finalized.Refused (by 5 (membersAhead (coding k) text ∷ at text (membersAhead (coding k) text) ∷ [])) (stateOf k text) then
-      ask leb (bytesFor pends) room else Finalized.Refused (by 4 []) (stateOf k text) then
-      Finalized.Wrote (bytesFor pends))
-  unfolding finalizeAt stateOf
-  finalize-answer room h =
-      ap (λ (b : Bool). ask b else Finalized.Refused (by 1 []) (stateOf k text) then asked (firstFrom (coding k) 0 text)) (state-sound k text h)
-      ∙ ap asked (first-ahead (coding k) 0 text ∙ ap (λ (j : ℕ). cond (eqb a (length text)) First.Nothing (First.At j (at text a))) (zero-add a))
-      ∙ go (eqb a (length text))
-    where
-      a : ℕ
-      a = membersAhead (coding k) text
-
-      rest : Finalized
-      rest = ask leb (bytesFor pends) room else Finalized.Refused (by 4 []) (stateOf k text) then Finalized.Wrote (bytesFor pends)
-
-      asked : First → Finalized
-      asked first = unlessBad first (λ position byte. Finalized.Refused (by 5 (position ∷ byte ∷ [])) (stateOf k text)) rest
-
-      go :
-          (b : Bool) →
-          asked (cond b First.Nothing (First.At a (at text a)))
-          ≡ (ask b else Finalized.Refused (by 5 (a ∷ at text a ∷ [])) (stateOf k text) then rest)
-      go true = refl
-      go false = refl
-
 -- the question of memory for one byte
 due : (s : SequenceEncoder) (c d room : ℕ) (b : Bool) → c ≡ d → leb d room ≡ b
     → (ask leb c room else Finalized.Refused (by 4 []) s then Finalized.Wrote c) ≡ (ask b else Finalized.Refused (by 4 []) s then Finalized.Wrote d)
 due s c d room b e l = rw (e, l)
 
-step-finalize :
-    (k : AlphabetType) (text memory : List ℕ) (cs : List Call) →
-    length text ≤ limit →
-    run (stateOf k text) cs ≡ tally (coding k) text cs →
-    run (stateOf k text) (finalize memory ∷ cs) ≡ tally (coding k) text (finalize memory ∷ cs)
-unfolding run tally finalizeMemory finalizeWrites finalizeTurn cut tabulate
-step-finalize k text memory cs h go =
-    ap after (finalize-answer k text (length memory) h) ∙ by-cases (eqb a (length text)) (eqb (pends k text) 0) (ltb 0 (length memory)) refl refl
-  where
-    a : ℕ
-    a = membersAhead (coding k) text
+-- ---- by an alphabet and a choice to fold
 
-    after : Finalized → List Outcome
-    after r =
-        record { reply = finalizedReply r; memory = front (finalizeWrites (stateOf k text) r) memory }
-        ∷ unlessFinal r [] (λ s. run s cs)
+module _ (fold : Bool) (k : AlphabetType) where
+  abbrev A : Coding
+  A = codingBy fold k
 
-    next : Turn → List Outcome
-    next turn = shown turn memory ∷ cond (isAccepted (turn .reply)) [] (tally (coding k) text cs)
+  -- the state of a text
+  abbrev state : List ℕ → SequenceEncoder
+  state text = stateOf fold k text
 
-    lone : List ℕ → List Outcome
-    lone w = record { reply = accepted (1 ∷ []); memory = front w memory } ∷ []
+  -- ---- `update`
 
-    by-cases :
-        (b p m : Bool) →
-        eqb (pends k text) 0 ≡ p →
-        ltb 0 (length memory) ≡ m →
-        after
-        (ask b else Finalized.Refused (by 5 (a ∷ at text a ∷ [])) (stateOf k text) then
-        ask leb (bytesFor (pends k text)) (length memory) else Finalized.Refused (by 4 []) (stateOf k text) then
-        Finalized.Wrote (bytesFor (pends k text)))
-        ≡ next
-        (ask b else stay text (refused 5 (a ∷ at text a ∷ [])) then
-        cond p (stay text (accepted (0 ∷ [])))
-        (ask m else stay text (refused 4 []) then
-        record { reply = accepted (1 ∷ []); bytes = drop (bytesFilled (coding k) (length text)) (textPacked (coding k) text); text = text }))
-    by-cases false p m e q = ap (λ (os : List Outcome). record { reply = refused 5 (a ∷ at text a ∷ []); memory = front [] memory } ∷ os) go
-    by-cases true true m e q =
-        let z : pends k text ≡ 0 = eqb-true (pends k text) 0 e in
-        ap after (due (stateOf k text) (bytesFor (pends k text)) 0 (length memory) true (omega arith) (le-leb 0 (length memory) (omega arith)))
-    by-cases true false false e q =
-        let z : pends k text ≡ 0 → ⊥ = eqb-false (pends k text) 0 e in
-        let none : length memory ≤ 0 = ltb-false 0 (length memory) q in
-        ap after (due (stateOf k text) (bytesFor (pends k text)) 1 (length memory) false (omega arith) (lt-leb 1 (length memory) (omega arith)))
-        ∙ ap (λ (os : List Outcome). record { reply = refused 4 []; memory = front [] memory } ∷ os) go
-    by-cases true false true e q =
-        let z : pends k text ≡ 0 → ⊥ = eqb-false (pends k text) 0 e in
-        let some : 0 < length memory = ltb-true 0 (length memory) q in
-        ap after (due (stateOf k text) (bytesFor (pends k text)) 1 (length memory) true (omega arith) (le-leb 1 (length memory) (omega arith)))
-        ∙ ap lone (last-same k text z)
+  module _ (text piece : List ℕ) where
+    count-same : pieceBitCount (state text) (length piece) / 8 ≡ completes A text piece
+    unfolding pieceBitCount stateOf completes
+    count-same = omega (arith, add-mul (length text) (length piece) (A .width))
 
--- ---- lists
+    bytes-same :
+        cut 8 (pieceBits (state text) piece) 0 (completes A text piece)
+        ≡ take (completes A text piece) (drop (bytesFilled A (length text)) (textPacked A (text ++ piece)))
+    unfolding completes
+    bytes-same =
+        let f : ℕ = bytesFilled A (length text) in
+        let c : ℕ = completes A text piece in
+        let fits : f + c ≤ bytesFor (length (text ++ piece) * A .width) = omega (arith, length-both fold k text piece, add-mul (length text) (length piece) (A .width)) in
+        cut-moved 8 (pieceBits (state text) piece) (textBits A (text ++ piece)) 0 (f * 8) c
+        (λ i h. ap (pieceBits (state text) piece) (zero-add i) ∙ piece-bits fold k text piece i)
+        ∙ sym (part-cut 8 (textBits A (text ++ piece)) f c (bytesFor (length (text ++ piece) * A .width)) fits)
+        ∙ ap (λ (l : List ℕ). take c (drop f l)) (sym (same-packing A (text ++ piece) ∙ packing-cut A (text ++ piece)))
 
-pub state-tally : (k : AlphabetType) (text : List ℕ) → length text ≤ limit → (cs : List Call) → run (stateOf k text) cs ≡ tally (coding k) text cs
-unfolding run tally
-state-tally k text h [] = refl
-state-tally k text h (update piece memory ∷ cs) = step-update k text piece memory cs h (λ u l. state-tally k u l cs)
-state-tally k text h (finalize memory ∷ cs) = step-finalize k text memory cs h (state-tally k text h cs)
+    update-answer :
+        (room : ℕ) →
+        length text ≤ limit →
+        updateAt (state text) piece room
+        ≡ (ask inBounds (length text + length piece) else Updated.Refused (by 2 []) (state text) then
+        ask leb (completes A text piece) room else Updated.Refused (by 4 []) (state text) then
+        Updated.Wrote (completes A text piece) (state (text ++ piece)))
+    unfolding updateAt stateOf
+    update-answer room h = rw (state-sound fold k text h, count-same, state-updated fold k text piece)
 
--- every list of calls from a fresh encoder
-pub fresh-tally : (k : AlphabetType) (cs : List Call) → run (freshEncoder k) cs ≡ tally (coding k) [] cs
-fresh-tally k cs = ap (λ (s : SequenceEncoder). run s cs) (fresh-state k) ∙ state-tally k [] (omega arith) cs
+  -- the rest of a list goes on alike after an `update`
+  step-update :
+      (text piece memory : List ℕ) (cs : List Call) →
+      length text ≤ limit →
+      ((u : List ℕ) → length u ≤ limit → run (state u) cs ≡ tally A u cs) →
+      run (state text) (update piece memory ∷ cs) ≡ tally A text (update piece memory ∷ cs)
+  unfolding run tally updateMemory updateWrites updateTurn
+  step-update text piece memory cs h go =
+      ap after (update-answer text piece (length memory) h) ∙ by-cases (inBounds (length text + length piece)) (leb (completes A text piece) (length memory)) refl
+    where
+      after : Updated → List Outcome
+      after r = record { reply = updatedReply r; memory = front (updateWrites (state text) piece r) memory } ∷ run (nextEncoder r) cs
+
+      next : Turn → List Outcome
+      next turn = shown turn memory ∷ tally A (turn .text) cs
+
+      by-cases :
+          (a b : Bool) →
+          inBounds (length text + length piece) ≡ a →
+          after
+          (ask a else Updated.Refused (by 2 []) (state text) then
+          ask b else Updated.Refused (by 4 []) (state text) then
+          Updated.Wrote (completes A text piece) (state (text ++ piece)))
+          ≡ next
+          (ask a else stay text (refused 2 []) then
+          ask b else stay text (refused 4 []) then
+          record {
+            reply = accepted (completes A text piece ∷ []);
+            bytes = take (completes A text piece) (drop (bytesFilled A (length text)) (textPacked A (text ++ piece)));
+            text = text ++ piece;
+          })
+      by-cases true true e =
+          ap₂ (λ (w : List ℕ) (os : List Outcome). record { reply = accepted (completes A text piece ∷ []); memory = front w memory } ∷ os) (bytes-same text piece)
+          (go (text ++ piece) (omega (arith, length-append text piece, leb-true (length text + length piece) limit e)))
+      by-cases true false e = ap (λ (os : List Outcome). record { reply = refused 4 []; memory = front [] memory } ∷ os) (go text h)
+      by-cases false b e = ap (λ (os : List Outcome). record { reply = refused 2 []; memory = front [] memory } ∷ os) (go text h)
+
+  -- ---- `finalize`
+
+  module _ (text : List ℕ) where
+    abbrev pends : ℕ
+    pends = length text * A .width % 8
+
+    last-same : (pends ≡ 0 → ⊥) → cut 8 (pieceBits (state text) []) 0 1 ≡ drop (bytesFilled A (length text)) (textPacked A text)
+    last-same z =
+        let f : ℕ = bytesFilled A (length text) in
+        let one-more : bytesFor (length text * A .width) ≡ f + 1 = omega arith in
+        cut-moved 8 (pieceBits (state text) []) (textBits A text) 0 (f * 8) 1
+        (λ i h. ap (pieceBits (state text) []) (zero-add i) ∙ piece-bits fold k text [] i ∙ ap (λ (l : List ℕ). textBits A l (f * 8 + i)) (append-nil text))
+        ∙ sym (drop-cut 8 (textBits A text) f 1)
+        ∙ ap (λ (n : ℕ). drop f (cut 8 (textBits A text) 0 n)) (sym one-more)
+        ∙ ap (drop f) (sym (same-packing A text ∙ packing-cut A text))
+
+    finalize-answer :
+        (room : ℕ) →
+        length text ≤ limit →
+        finalizeAt (state text) room
+        ≡ (ask eqb (membersAhead A text) (length text)
+        else Finalized.Refused (by 5 (membersAhead A text ∷ at text (membersAhead A text) ∷ [])) (state text) then
+        ask leb (bytesFor pends) room else Finalized.Refused (by 4 []) (state text) then
+        Finalized.Wrote (bytesFor pends))
+    unfolding finalizeAt stateOf
+    finalize-answer room h =
+        ap (λ (b : Bool). ask b else Finalized.Refused (by 1 []) (state text) then asked (firstFrom A 0 text)) (state-sound fold k text h)
+        ∙ ap asked (first-ahead A 0 text ∙ ap (λ (j : ℕ). cond (eqb a (length text)) First.Nothing (First.At j (at text a))) (zero-add a))
+        ∙ go (eqb a (length text))
+      where
+        a : ℕ
+        a = membersAhead A text
+
+        rest : Finalized
+        rest = ask leb (bytesFor pends) room else Finalized.Refused (by 4 []) (state text) then Finalized.Wrote (bytesFor pends)
+
+        asked : First → Finalized
+        asked first = unlessBad first (λ position byte. Finalized.Refused (by 5 (position ∷ byte ∷ [])) (state text)) rest
+
+        go :
+            (b : Bool) →
+            asked (cond b First.Nothing (First.At a (at text a)))
+            ≡ (ask b else Finalized.Refused (by 5 (a ∷ at text a ∷ [])) (state text) then rest)
+        go true = refl
+        go false = refl
+
+  step-finalize :
+      (text memory : List ℕ) (cs : List Call) →
+      length text ≤ limit →
+      run (state text) cs ≡ tally A text cs →
+      run (state text) (finalize memory ∷ cs) ≡ tally A text (finalize memory ∷ cs)
+  unfolding run tally finalizeMemory finalizeWrites finalizeTurn cut tabulate
+  step-finalize text memory cs h go =
+      ap after (finalize-answer text (length memory) h) ∙ by-cases (eqb a (length text)) (eqb (pends text) 0) (ltb 0 (length memory)) refl refl
+    where
+      a : ℕ
+      a = membersAhead A text
+
+      after : Finalized → List Outcome
+      after r =
+          record { reply = finalizedReply r; memory = front (finalizeWrites (state text) r) memory }
+          ∷ unlessFinal r [] (λ s. run s cs)
+
+      next : Turn → List Outcome
+      next turn = shown turn memory ∷ cond (isAccepted (turn .reply)) [] (tally A text cs)
+
+      lone : List ℕ → List Outcome
+      lone w = record { reply = accepted (1 ∷ []); memory = front w memory } ∷ []
+
+      by-cases :
+          (b p m : Bool) →
+          eqb (pends text) 0 ≡ p →
+          ltb 0 (length memory) ≡ m →
+          after
+          (ask b else Finalized.Refused (by 5 (a ∷ at text a ∷ [])) (state text) then
+          ask leb (bytesFor (pends text)) (length memory) else Finalized.Refused (by 4 []) (state text) then
+          Finalized.Wrote (bytesFor (pends text)))
+          ≡ next
+          (ask b else stay text (refused 5 (a ∷ at text a ∷ [])) then
+          cond p (stay text (accepted (0 ∷ [])))
+          (ask m else stay text (refused 4 []) then
+          record { reply = accepted (1 ∷ []); bytes = drop (bytesFilled A (length text)) (textPacked A text); text = text }))
+      by-cases false p m e q = ap (λ (os : List Outcome). record { reply = refused 5 (a ∷ at text a ∷ []); memory = front [] memory } ∷ os) go
+      by-cases true true m e q =
+          let z : pends text ≡ 0 = eqb-true (pends text) 0 e in
+          ap after (due (state text) (bytesFor (pends text)) 0 (length memory) true (omega arith) (le-leb 0 (length memory) (omega arith)))
+      by-cases true false false e q =
+          let z : pends text ≡ 0 → ⊥ = eqb-false (pends text) 0 e in
+          let none : length memory ≤ 0 = ltb-false 0 (length memory) q in
+          ap after (due (state text) (bytesFor (pends text)) 1 (length memory) false (omega arith) (lt-leb 1 (length memory) (omega arith)))
+          ∙ ap (λ (os : List Outcome). record { reply = refused 4 []; memory = front [] memory } ∷ os) go
+      by-cases true false true e q =
+          let z : pends text ≡ 0 → ⊥ = eqb-false (pends text) 0 e in
+          let some : 0 < length memory = ltb-true 0 (length memory) q in
+          ap after (due (state text) (bytesFor (pends text)) 1 (length memory) true (omega arith) (le-leb 1 (length memory) (omega arith)))
+          ∙ ap lone (last-same text z)
+
+  -- ---- lists
+
+  pub state-tally : (text : List ℕ) → length text ≤ limit → (cs : List Call) → run (state text) cs ≡ tally A text cs
+  unfolding run tally
+  state-tally text h [] = refl
+  state-tally text h (update piece memory ∷ cs) = step-update text piece memory cs h (λ u l. state-tally u l cs)
+  state-tally text h (finalize memory ∷ cs) = step-finalize text memory cs h (state-tally text h cs)
+
+  -- every list of calls from a fresh encoder
+  pub fresh-tally : (cs : List Call) → run (freshEncoder fold k) cs ≡ tally A [] cs
+  fresh-tally cs = ap (λ (s : SequenceEncoder). run s cs) (fresh-state fold k) ∙ state-tally [] (omega arith) cs

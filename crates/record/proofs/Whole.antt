@@ -16,8 +16,8 @@ use Rattle.bits.specs.Memory.{front}
 use Rattle.bits.proofs.Appended.{cut-moved, part-cut, bits-left}
 use Rattle.alphabet.specs.declared.kind.AlphabetType.{AlphabetType}
 use Rattle.alphabet.specs.Questions.{ask_else_then_, limit, inBounds, accepted, refused, valueIn}
-use Rattle.alphabet.specs.Symbols.{Coding, coding}
-use Rattle.alphabet.specs.Names.{known, kindOf, numbered}
+use Rattle.alphabet.specs.Symbols.{Coding, codingBy}
+use Rattle.alphabet.specs.Names.{known, kindOf, numberedBy}
 use Rattle.alphabet.proofs.Laws.{lawful}
 use Rattle.packing.specs.Encode.{digitOf, digitsOf, packing, freshEncoder}
 use Rattle.record.specs.Calls.{Call, update, finalize, Outcome, isAccepted, written, acceptedText, finished}
@@ -55,9 +55,9 @@ accepted-nil (c ∷ cs) = refl
 
 -- ---- bytes that are full stay as the text goes on
 
-module _ (k : AlphabetType) where
+module _ (fold : Bool) (k : AlphabetType) where
   abbrev A : Coding
-  A = coding k
+  A = codingBy fold k
 
   part : (t : List ℕ) (f c : ℕ) → f + c ≤ bytesFor (length t * A .width) → take c (drop f (packing A t)) ≡ cut 8 (textBits A t) (f * 8) c
   part t f c h = ap (λ (l : List ℕ). take c (drop f l)) (packing-cut A t) ∙ part-cut 8 (textBits A t) f c (bytesFor (length t * A .width)) h
@@ -69,8 +69,8 @@ module _ (k : AlphabetType) where
       (λ i l.
       sym
       (ap (λ (l : List ℕ). bitAt (A .width) (at l) (f * 8 + i)) (map-append (digitOf A) t u)
-      ∙ bits-left (A .width) (lawful k .some-bits) (digitsOf A t) (digitsOf A u) (f * 8 + i) (omega (arith, ap (λ (m : ℕ). m * A .width) (length-map t (digitOf A))))))
-      ∙ sym (part (t ++ u) f c (omega (arith, length-both k t u)))
+      ∙ bits-left (A .width) (lawful fold k .some-bits) (digitsOf A t) (digitsOf A u) (f * 8 + i) (omega (arith, ap (λ (m : ℕ). m * A .width) (length-map t (digitOf A))))))
+      ∙ sym (part (t ++ u) f c (omega (arith, length-both fold k t u)))
 
   -- ---- `update`
 
@@ -93,7 +93,7 @@ module _ (k : AlphabetType) where
 
     filled : f + c ≡ bytesFilled A (length (text ++ piece))
     unfolding completes
-    filled = omega (arith, length-both k text piece, add-mul (length text) (length piece) (A .width))
+    filled = omega (arith, length-both fold k text piece, add-mul (length text) (length piece) (A .width))
 
     counted : length (take c (drop f (textPacked A (text ++ piece)))) ≡ c
     counted =
@@ -202,24 +202,24 @@ module _ (k : AlphabetType) where
 
 -- after an accepted `finalize`
 pub fresh-packs :
-    (alphabet : ℕ) →
+    (alphabet : ℕ) (fold : Bool) →
     known alphabet ≡ true →
     (cs : List Call) →
-    finished cs (run (freshEncoder (kindOf alphabet)) cs) ≡ true →
-    Packed alphabet (acceptedText cs (run (freshEncoder (kindOf alphabet)) cs)) (written 0 (run (freshEncoder (kindOf alphabet)) cs))
-fresh-packs alphabet o cs e = rw told (packed (tally (numbered alphabet) [] cs) (whole (kindOf alphabet) [] cs (omega arith) (rw told at e)))
+    finished cs (run (freshEncoder fold (kindOf alphabet)) cs) ≡ true →
+    Packed alphabet fold (acceptedText cs (run (freshEncoder fold (kindOf alphabet)) cs)) (written 0 (run (freshEncoder fold (kindOf alphabet)) cs))
+fresh-packs alphabet fold o cs e = rw told (packed (tally (numberedBy fold alphabet) [] cs) (whole fold (kindOf alphabet) [] cs (omega arith) (rw told at e)))
   where
-    told : run (freshEncoder (kindOf alphabet)) cs ≡ tally (numbered alphabet) [] cs
-    told = fresh-tally (kindOf alphabet) cs
+    told : run (freshEncoder fold (kindOf alphabet)) cs ≡ tally (numberedBy fold alphabet) [] cs
+    told = fresh-tally fold (kindOf alphabet) cs
 
-    packed : (os : List Outcome) → Reaches (numbered alphabet) [] (acceptedText cs os) (written 0 os) → Packed alphabet (acceptedText cs os) (written 0 os)
+    packed : (os : List Outcome) → Reaches (numberedBy fold alphabet) [] (acceptedText cs os) (written 0 os) → Packed alphabet fold (acceptedText cs os) (written 0 os)
     packed os r =
-        let bytes : written 0 os ≡ packing (numbered alphabet) (acceptedText cs os) =
-        r .wrote ∙ ap (λ (j : ℕ). drop (j / 8) (packing (numbered alphabet) (acceptedText cs os))) (zero-mul (numbered alphabet .width)) in
+        let bytes : written 0 os ≡ packing (numberedBy fold alphabet) (acceptedText cs os) =
+        r .wrote ∙ ap (λ (j : ℕ). drop (j / 8) (packing (numberedBy fold alphabet) (acceptedText cs os))) (zero-mul (numberedBy fold alphabet .width)) in
         record {
           has-alphabet = o;
-          members = all-members (numbered alphabet) (acceptedText cs os) (r .all);
+          members = all-members (numberedBy fold alphabet) (acceptedText cs os) (r .all);
           bounded = r .fits;
-          counted = ap length bytes ∙ length-packing (numbered alphabet) (acceptedText cs os);
+          counted = ap length bytes ∙ length-packing (numberedBy fold alphabet) (acceptedText cs os);
           packs = bytes;
         }

@@ -4,18 +4,22 @@ use lib.Count.{trailingZeros}
 use Rattle.bits.specs.Tables.{tabulate, bytesOf}
 use Rattle.bits.specs.Streams.{bitAt, word, after, cut}
 use Rattle.bits.specs.Packing.{pack, atHand, fileByte, codesFrom}
-use Rattle.alphabet.specs.Symbols.{coded, dna2bit, dna3bit, dnaIupac, protein, among, found, canon, listed, plain, coding}
+use Rattle.alphabet.specs.Symbols.{coded, dna2bit, dna3bit, dnaIupac, protein, among, found, listed, plain, coding, upper}
 use Rattle.alphabet.specs.Names.{displayName, kindOf, namedAt}
-use Rattle.alphabet.specs.Guess.{holders, maskOf, masked, lowest, guessOf, soundGuesser, guessAt}
-use Rattle.packing.specs.Encode.{digitOf, packing, firstFrom, encodeAt, encodeWrites, encodeMemory, soundEncoder, pieceBitCount, updateAt, finalizeAt}
+use Rattle.alphabet.specs.Guess.{holders, maskOf, masked, lowest, guessOf, soundGuesser, guesserUpdateAt, guessAt}
+use Rattle.packing.specs.Encode.{digitOf, packing, firstFrom, encodeAt, encodeWrites, encodeMemory, freshEncoder, soundEncoder, pieceBits, pieceBitCount, updated}
+use Rattle.packing.specs.Encode.{updateAt, updateWrites, updateMemory, finalizeAt, finalizeWrites, finalizeMemory}
 use Rattle.packing.specs.Range.{rangeAt}
 use Rattle.windows.specs.Window.{window, covers, readAt, coveredAt, readWrites, readMemory, coveredMemory}
 use Rattle.streaming.specs.Stream.{freshStream, soundStream, startStreamAt, greatest, sourceBits, used, takes, basesOf, moved, movedBy, streamAt, streamMemory, streamWrites, endAt}
+use Rattle.record.specs.Calls.{written}
+use Rattle.record.specs.Runs.{run}
 use Rattle.record.specs.Rows.{Hold, rows}
 
 pub rows-hold : Hold rows
-unfolding trailingZeros tabulate bitAt word after cut pack atHand fileByte codesFrom bytesOf coded dna2bit dna3bit dnaIupac protein among found canon listed plain
-    coding displayName kindOf namedAt holders maskOf masked lowest guessOf soundGuesser guessAt digitOf packing firstFrom encodeAt encodeWrites encodeMemory
-    soundEncoder pieceBitCount updateAt finalizeAt rangeAt window covers readAt coveredAt readWrites readMemory coveredMemory freshStream soundStream startStreamAt
-    greatest sourceBits used takes basesOf moved movedBy streamAt streamMemory streamWrites endAt
+unfolding trailingZeros tabulate bitAt word after cut pack atHand fileByte codesFrom bytesOf coded dna2bit dna3bit dnaIupac protein among found listed plain
+    coding upper displayName kindOf namedAt holders maskOf masked lowest guessOf soundGuesser guesserUpdateAt guessAt digitOf packing firstFrom encodeAt encodeWrites
+    encodeMemory freshEncoder soundEncoder pieceBits pieceBitCount updated updateAt updateWrites updateMemory finalizeAt finalizeWrites finalizeMemory rangeAt window
+    covers readAt coveredAt readWrites readMemory coveredMemory freshStream soundStream startStreamAt greatest sourceBits used takes basesOf moved movedBy streamAt
+    streamMemory streamWrites endAt written run
 rows-hold = refl

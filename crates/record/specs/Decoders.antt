@@ -11,18 +11,13 @@ use Rattle.bits.specs.Streams.{bitAt}
 use Rattle.bits.specs.Packing.{fileByte}
 use Rattle.bits.specs.Memory.{front}
 use Rattle.alphabet.specs.declared.kind.AlphabetType.the-variants.{Dna2bit, Dna3bit}
-use Rattle.alphabet.specs.Symbols.{Coding}
-use Rattle.alphabet.specs.Names.{numberOf, numbered}
+use Rattle.alphabet.specs.Names.{numberOf}
 use Rattle.packing.specs.declared.range.Range.{Range}
 use Rattle.windows.specs.declared.read.Read.{Read}
 use Rattle.record.specs.Made.{RangeCall, AtOffsetCall, SubstringCall, StringCall, CoveredCall, TwoBitCall, ThreeBitCall, RollingCall}
-use Rattle.record.specs.EncoderLists.{EncoderList, alphabetIn, Finished, textIn, bytesIn}
+use Rattle.record.specs.EncoderLists.{EncoderList, alphabetIn, codingIn, Finished, textIn, bytesIn}
 
 -- ---- a window
-
--- the coding of a list's alphabet
-abbrev pub codingIn : EncoderList → Coding
-codingIn l = numbered (alphabetIn l)
 
 -- a window of a list whose `finalize` was accepted, s < e ≤ n, and the bytes that an accepted `byte_range_for_bases`, asked about it, named
 pub record Window (l : EncoderList) : Type 0 where

@@ -2,9 +2,11 @@
 -- an accepted `finalize` ends the list.
 use Prim.Native.Nat.{ℕ}
 use mathlib.Core.Path.{_≡_}
-use mathlib.Core.Bool.{true}
+use mathlib.Core.Bool.{Bool, true}
 use mathlib.Core.List.{List, [], _∷_}
 use denote.Ref.{now}
+use Rattle.alphabet.specs.Symbols.{Coding}
+use Rattle.alphabet.specs.Names.{numberedBy}
 use Rattle.packing.specs.declared.encoder.SequenceEncoder.{SequenceEncoder}
 use Rattle.packing.specs.declared.encoder.EncoderStarted.{EncoderStarted}
 use Rattle.packing.specs.Answers.{updatedReply, finalizedReply}
@@ -50,9 +52,16 @@ pub record EncoderList : Type 0 where
   pub calls : List CodeCall
   pub follows : Follows fresh calls
 
--- the alphabet number that `new` was handed
+-- the alphabet number and the choice to fold that `new` was handed
 abbrev pub alphabetIn : EncoderList → ℕ
-alphabetIn l = let (alphabet, _) = l .new .args in alphabet
+alphabetIn l = let (alphabet, (fold, _)) = l .new .args in alphabet
+
+abbrev pub foldIn : EncoderList → Bool
+foldIn l = let (alphabet, (fold, _)) = l .new .args in fold
+
+-- the coding that its texts are packed by
+abbrev pub codingIn : EncoderList → Coding
+codingIn l = numberedBy (foldIn l) (alphabetIn l)
 
 -- a finished list
 pub record Finished (l : EncoderList) : Type 0 where

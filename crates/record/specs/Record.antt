@@ -1,9 +1,10 @@
 -- Demand 3, the record: one claim, its clauses in the order of the demand's sentences, about what the code does. Every call is one that its function's own
--- contract allows.
+-- contract allows. Request A1: what packs a text goes by the choice to fold that `new`, or `encode_sequence`, was handed, and each byte counts as the symbol that it
+-- then stands for; proofs/Uppercase.antt says which that is.
 use Prim.Native.Nat.{ℕ, _+_, _-_, _*_, _%_, _≤_, _<_}
 use mathlib.Core.Path.{_≡_}
 use mathlib.Core.Logic.{_↔_, _⊎_}
-use mathlib.Core.Bool.{cond}
+use mathlib.Core.Bool.{Bool, cond}
 use mathlib.Core.List.{List, [], _∷_}
 use denote.Ref.{now}
 use lib.Dec.{eqb}
@@ -12,7 +13,7 @@ use Rattle.bits.specs.Packing.{bytesFor}
 use Rattle.bits.specs.Memory.{front}
 use Rattle.alphabet.specs.Questions.{accepted, refused}
 use Rattle.alphabet.specs.Symbols.{Coding}
-use Rattle.alphabet.specs.Names.{numbered}
+use Rattle.alphabet.specs.Names.{numbered, numberedBy}
 use Rattle.packing.specs.Encode.{packing}
 use Rattle.packing.specs.declared.sequence.Encoded.{Encoded}
 use Rattle.streaming.specs.declared.decoder.Status.the-variants.{Hungry}
@@ -23,29 +24,33 @@ use Rattle.record.specs.Calls.{written}
 use Rattle.record.specs.Tally.{tally}
 use Rattle.record.specs.Texts.{Members, Extends, Packed}
 use Rattle.record.specs.Made.{EncodeCall, ReadCall, EndCall}
-use Rattle.record.specs.EncoderLists.{EncoderList, callsOf, outcomesOf, alphabetIn, Finished, textIn, bytesIn}
-use Rattle.record.specs.Decoders.{codingIn, Window, symbolsIn, Lent, DecoderCall, handed, Set, Gives}
+use Rattle.record.specs.EncoderLists.{EncoderList, callsOf, outcomesOf, alphabetIn, foldIn, codingIn, Finished, textIn, bytesIn}
+use Rattle.record.specs.Decoders.{Window, symbolsIn, Lent, DecoderCall, handed, Set, Gives}
 use Rattle.record.specs.StreamTally.{streamTally, placeOf, total}
 use Rattle.record.specs.StreamLists.{StreamList, stateFor, sourceFor, memoryFor, stateAtEnd, askedOf, streamedOf, lastState, alphabetOf, skipOf, budgetOf}
 
--- ---- a call of `encode_sequence`: its alphabet number, its text, and its memory before and afterwards
+-- ---- a call of `encode_sequence`: its alphabet number, its choice to fold, its text, and its memory before and afterwards
 
 abbrev pub alphabetFor : EncodeCall → ℕ
-alphabetFor e = let (alphabet, (text, (out, _))) = e .args in alphabet
+alphabetFor e = let (alphabet, (fold, (text, (out, _)))) = e .args in alphabet
+
+abbrev pub foldFor : EncodeCall → Bool
+foldFor e = let (alphabet, (fold, (text, (out, _)))) = e .args in fold
 
 abbrev pub textFor : EncodeCall → List ℕ
-textFor e = let (alphabet, (text, (out, _))) = e .args in now text
+textFor e = let (alphabet, (fold, (text, (out, _)))) = e .args in now text
 
 abbrev pub before : EncodeCall → List ℕ
-before e = let (alphabet, (text, (out, _))) = e .args in now out
+before e = let (alphabet, (fold, (text, (out, _)))) = e .args in now out
 
 abbrev pub afterwards : EncodeCall → List ℕ
-afterwards e = let (alphabet, (text, (out, _))) = e .exit in now out
+afterwards e = let (alphabet, (fold, (text, (out, _)))) = e .exit in now out
 
 -- a call with the pieces of an encoder's list, joined
 pub record AtOnce (l : EncoderList) (e : EncodeCall) : Type 0 where
-  -- by the list's alphabet
+  -- by the list's alphabet and its choice to fold
   pub by-alphabet : alphabetFor e ≡ alphabetIn l
+  pub by-choice : foldFor e ≡ foldIn l
   pub text : textFor e ≡ textIn l
   -- given enough output memory
   pub room : length (bytesIn l) ≤ length (before e)
@@ -126,12 +131,12 @@ pub record StreamGives (l : EncoderList) (w : Window l) (t : StreamList) : Type 
 
 pub record Record : Type 0 where
   -- for every list of `update` and `finalize` calls from a fresh encoder, refused ones included, each call's count or refusal, and the bytes it writes, are
-  -- those of the tally
-  pub tallied : (l : EncoderList) → outcomesOf (l .calls) ≡ tally (numbered (alphabetIn l)) [] (callsOf (l .calls))
+  -- those of the tally, by the alphabet and the choice to fold that `new` was handed
+  pub tallied : (l : EncoderList) → outcomesOf (l .calls) ≡ tally (codingIn l) [] (callsOf (l .calls))
   -- after an accepted `finalize` the bytes written, joined, are the ceil(n · b / 8) that pack the accepted pieces joined: n members of one alphabet, n at
   -- most 2^60, b bits each
-  pub packs : (l : EncoderList) → Finished l → Packed (alphabetIn l) (textIn l) (bytesIn l)
-  -- `encode_sequence` of those pieces joined, given enough output memory, gives the same
+  pub packs : (l : EncoderList) → Finished l → Packed (alphabetIn l) (foldIn l) (textIn l) (bytesIn l)
+  -- `encode_sequence` of those pieces joined, by the same choice and given enough output memory, gives the same
   pub at-once :
       (l : EncoderList) →
       Finished l →
@@ -139,7 +144,7 @@ pub record Record : Type 0 where
       AtOnce l e →
       (e .result ≡ Encoded.Wrote (length (bytesIn l))) × (afterwards e ≡ front (bytesIn l) (before e))
   -- whatever text it accepts, it packs
-  pub encodes : (e : EncodeCall) (count : ℕ) → e .result ≡ Encoded.Wrote count → Packed (alphabetFor e) (textFor e) (take count (afterwards e))
+  pub encodes : (e : EncodeCall) (count : ℕ) → e .result ≡ Encoded.Wrote count → Packed (alphabetFor e) (foldFor e) (textFor e) (take count (afterwards e))
   -- for s < e ≤ n, each decoder, set to that window and lent the bytes `byte_range_for_bases` names (from 0 to that range's end where byte_offset is fixed at
   -- 0), returns symbols s to e − 1, whatever the bits outside those symbols' own hold
   pub decoders : (l : EncoderList) (w : Window l) (c : DecoderCall) → Set l w c → Gives l w (handed c)
@@ -151,11 +156,9 @@ pub record Record : Type 0 where
   pub waits : (t : StreamList) (c : ReadCall) → GoesOn t c → takenIn t + length (sourceFor c) < bytesFor (skipOf t) → c .result ≡ Streamed.Moved 0 0 Hungry (stateFor c)
   pub largest :
       (t : StreamList) (c : ReadCall) → GoesOn t c → bytesFor (skipOf t) ≤ takenIn t + length (sourceFor c) → Largest t c (length (basesIn t) + wroteBy (c .result))
-  -- two sequences of members of one alphabet have equal packed bytes exactly when one is the other followed by zero or more symbols of code zero and their
-  -- packed byte counts agree
+  -- two sequences of members of one alphabet, by one choice to fold, have equal packed bytes exactly when one is the other followed by zero or more symbols of
+  -- code zero and their packed byte counts agree
   pub alike :
-      (alphabet : ℕ) (t u : List ℕ) →
-      Members (numbered alphabet) t →
-      Members (numbered alphabet) u →
-      (packing (numbered alphabet) t ≡ packing (numbered alphabet) u)
-      ↔ ((Extends (numbered alphabet) t u ⊎ Extends (numbered alphabet) u t) × (length (packing (numbered alphabet) t) ≡ length (packing (numbered alphabet) u)))
+      (alphabet : ℕ) (fold : Bool) (t u : List ℕ) →
+      let A : Coding = numberedBy fold alphabet in
+      Members A t → Members A u → (packing A t ≡ packing A u) ↔ ((Extends A t u ⊎ Extends A u t) × (length (packing A t) ≡ length (packing A u)))

@@ -1,9 +1,10 @@
 -- The worked table. States the starred rows of document 01, "Worked table", for each alphabet a row of codes and its name from "Leaf 1", and then rows for what
--- the words settle and no starred row shows: each status, each bound, and which question comes first where two are answered by no. One list of calls and what
--- comes of them, in numbers and texts that are written out.
+-- the words settle and no starred row shows: each status, each bound, and which question comes first where two are answered by no; and for request A1 what comes
+-- of folding. One list of calls and what comes of them, in numbers and texts that are written out.
 use Prim.Native.Nat.{ℕ}
 use Prim.Native.String.{String}
 use mathlib.Core.Path.{_≡_}
+use mathlib.Core.Bool.{Bool, true, false}
 use mathlib.Core.List.{List, [], _∷_, map}
 use lib.ListN.{length, replicate}
 use Rattle.bits.specs.Tables.{bytesOf}
@@ -11,13 +12,13 @@ use Rattle.bits.specs.Memory.{front}
 use Rattle.alphabet.specs.declared.kind.AlphabetType.{AlphabetType}
 use Rattle.alphabet.specs.declared.kind.AlphabetType.the-variants.{Dna2bit, Dna3bit, DnaIupac, Protein, Ascii, Unknown}
 use Rattle.alphabet.specs.Questions.{Reply, accepted, refused, refusalReply}
-use Rattle.alphabet.specs.Symbols.{coding}
+use Rattle.alphabet.specs.Symbols.{codingBy}
 use Rattle.alphabet.specs.Names.{displayName, numberOf, kindOf, namedAt}
-use Rattle.alphabet.specs.Guess.{guessOf, guessAt}
-use Rattle.alphabet.specs.Answers.{namedReply, guessedReply}
+use Rattle.alphabet.specs.Guess.{guessOf, guesserUpdateAt, guessAt}
+use Rattle.alphabet.specs.Answers.{namedReply, guesserUpdatedReply, guessedReply}
 use Rattle.packing.specs.declared.first.First.{First}
 use Rattle.packing.specs.declared.encoder.SequenceEncoder.{SequenceEncoder}
-use Rattle.packing.specs.Encode.{encodeAt, encodeMemory, updateAt, finalizeAt}
+use Rattle.packing.specs.Encode.{encodeAt, encodeMemory, freshEncoder, updateAt, finalizeAt}
 use Rattle.packing.specs.Range.{rangeAt}
 use Rattle.packing.specs.Answers.{encodedReply, updatedReply, finalizedReply, rangeReply}
 use Rattle.windows.specs.Window.{readAt, readMemory, coveredAt, coveredMemory}
@@ -26,6 +27,8 @@ use Rattle.streaming.specs.declared.decoder.StreamStarted.{StreamStarted}
 use Rattle.streaming.specs.Stream.{startStreamAt, streamAt, streamMemory, endAt}
 use Rattle.streaming.specs.Answers.{streamStartedReply, streamedReply, endedReply}
 use Rattle.streaming.specs.Count.{nextBy}
+use Rattle.record.specs.Calls as calls
+use Rattle.record.specs.Runs.{run}
 
 -- ---- rows
 
@@ -37,6 +40,8 @@ pub data Told : Type 0 where
   leaves : Reply → List ℕ → Told
   -- of a stream call these, and what an end call then tells
   streams : Reply → List ℕ → Reply → Told
+  -- of a list of an encoder's calls what each tells, and the bytes written, joined
+  joins : List Reply → List ℕ → Told
   -- an alphabet, and bytes
   kind : AlphabetType → Told
   bytes : List ℕ → Told
@@ -56,13 +61,28 @@ Hold rs = map (λ r. r .call) rs ≡ map (λ r. r .answer) rs
 
 -- ---- calls
 
+-- the choice: not to fold, and to fold
+abbrev pub keeping : Bool
+keeping = false
+
+abbrev pub folding : Bool
+folding = true
+
 -- output memory of n bytes, none of them zero
 abbrev pub blank : ℕ → List ℕ
 blank n = replicate n 0xaa
 
--- a text packed whole, into memory of nine bytes
-abbrev pub packs : AlphabetType → String → Told
-packs k text = leaves (encodedReply (encodeAt (numberOf k) (bytesOf text) 9)) (encodeMemory (numberOf k) (bytesOf text) (blank 9))
+-- a text packed whole by a choice, into memory of nine bytes
+abbrev pub packs : AlphabetType → Bool → String → Told
+packs k fold text = leaves (encodedReply (encodeAt (numberOf k) fold (bytesOf text) 9)) (encodeMemory (numberOf k) fold (bytesOf text) (blank 9))
+
+-- two pieces from a fresh encoder, then `finalize`, each with memory of nine bytes
+abbrev pub listTold : List calls.Outcome → Told
+listTold os = joins (map (λ o. o .reply) os) (calls.written 0 os)
+
+abbrev pub pieces : AlphabetType → Bool → String → String → Told
+pieces k fold one two =
+    listTold (run (freshEncoder fold k) (calls.update (bytesOf one) (blank 9) ∷ calls.update (bytesOf two) (blank 9) ∷ calls.finalize (blank 9) ∷ []))
 
 -- bytes at offset 0 and a window, read into memory of nine bytes, by a zero-filling and by the covered read
 abbrev pub reads : AlphabetType → List ℕ → ℕ → ℕ → Told
@@ -82,12 +102,12 @@ streamed (StreamStarted.Refused q) source room = tells (refusalReply q)
 abbrev pub stream : AlphabetType → ℕ → ℕ → List ℕ → ℕ → Told
 stream k skip budget source room = streamed (startStreamAt (numberOf k) skip budget) source room
 
--- the guess for a text, the encoding table's entries for its bytes, and the display name of a number's kind
-abbrev pub guess : String → Told
-guess text = kind (guessOf (bytesOf text))
+-- the guess for a text and the encoding table's entries for its bytes, by a choice; and the display name of a number's kind
+abbrev pub guess : Bool → String → Told
+guess fold text = kind (guessOf fold (bytesOf text))
 
-abbrev pub codes : AlphabetType → String → Told
-codes k text = bytes (map (coding k .code) (bytesOf text))
+abbrev pub codes : AlphabetType → Bool → String → Told
+codes k fold text = bytes (map (codingBy fold k .code) (bytesOf text))
 
 abbrev pub name : ℕ → Told
 name number = bytes (displayName (kindOf number))
@@ -99,8 +119,8 @@ names number = tells (namedReply (namedAt number))
 abbrev pub range : ℕ → ℕ → ℕ → Told
 range start end bits = tells (rangeReply (rangeAt start end bits))
 
-abbrev pub encode : ℕ → String → ℕ → Told
-encode alphabet text room = tells (encodedReply (encodeAt alphabet (bytesOf text) room))
+abbrev pub encode : ℕ → Bool → String → ℕ → Told
+encode alphabet fold text room = tells (encodedReply (encodeAt alphabet fold (bytesOf text) room))
 
 abbrev pub read : ℕ → ℕ → ℕ → ℕ → ℕ → Told
 read alphabet offset start end room = tells (readReply (readAt alphabet offset start end room))
@@ -111,12 +131,15 @@ cover alphabet lent offset start end room = tells (readReply (coveredAt alphabet
 abbrev pub start : ℕ → ℕ → ℕ → Told
 start alphabet skip budget = tells (streamStartedReply (startStreamAt alphabet skip budget))
 
--- from states of any kind: `guess` of a mask; `update` and `finalize` of an encoder; the end call of a stream
-abbrev pub masked : ℕ → Told
-masked mask = tells (guessedReply (guessAt (record { acc = mask })))
+-- from states of any kind: `guess` and `update` of a guesser; `update` and `finalize` of an encoder; the end call of a stream
+abbrev pub masked : ℕ → Bool → Told
+masked mask fold = tells (guessedReply (guessAt (record { acc = mask; fold = fold })))
 
-abbrev pub encoder : AlphabetType → ℕ → ℕ → ℕ → First → SequenceEncoder
-encoder k seen bits pending first = record { alphabet = k; seen = seen; bits = bits; pending = pending; first = first }
+abbrev pub sees : ℕ → Bool → String → Told
+sees mask fold text = tells (guesserUpdatedReply (guesserUpdateAt (record { acc = mask; fold = fold }) (bytesOf text)))
+
+abbrev pub encoder : AlphabetType → ℕ → ℕ → ℕ → First → Bool → SequenceEncoder
+encoder k seen bits pending first fold = record { alphabet = k; seen = seen; bits = bits; pending = pending; first = first; fold = fold }
 
 abbrev pub update : SequenceEncoder → String → ℕ → Told
 update s piece room = tells (updatedReply (updateAt s (bytesOf piece) room))
@@ -153,17 +176,17 @@ no number = tells (refused number [])
 abbrev pub rows : List Row
 rows =
     -- the starred rows
-    packs Dna2bit "ACGT" gives writes (0x9c ∷ [])
-    ∷ packs Dna2bit "TCAG" gives writes (0x1b ∷ [])
-    ∷ packs Dna3bit "ACGTNRYU" gives writes (0x05 ∷ 0x39 ∷ 0x77 ∷ [])
-    ∷ packs DnaIupac "NACM" gives writes (0x01 ∷ 0x23 ∷ [])
-    ∷ packs Protein "MK*" gives writes (0x52 ∷ 0x28 ∷ [])
-    ∷ packs Dna2bit "ACNT" gives refuses 5 (2 ∷ 0x4e ∷ [])
-    ∷ guess "" gives kind Dna2bit
-    ∷ guess "ACGU" gives kind Dna3bit
-    ∷ guess "ACGTS" gives kind DnaIupac
-    ∷ guess "ACGX" gives kind Protein
-    ∷ guess "acgt" gives kind Ascii
+    packs Dna2bit keeping "ACGT" gives writes (0x9c ∷ [])
+    ∷ packs Dna2bit keeping "TCAG" gives writes (0x1b ∷ [])
+    ∷ packs Dna3bit keeping "ACGTNRYU" gives writes (0x05 ∷ 0x39 ∷ 0x77 ∷ [])
+    ∷ packs DnaIupac keeping "NACM" gives writes (0x01 ∷ 0x23 ∷ [])
+    ∷ packs Protein keeping "MK*" gives writes (0x52 ∷ 0x28 ∷ [])
+    ∷ packs Dna2bit keeping "ACNT" gives refuses 5 (2 ∷ 0x4e ∷ [])
+    ∷ guess keeping "" gives kind Dna2bit
+    ∷ guess keeping "ACGU" gives kind Dna3bit
+    ∷ guess keeping "ACGTS" gives kind DnaIupac
+    ∷ guess keeping "ACGX" gives kind Protein
+    ∷ guess keeping "acgt" gives kind Ascii
     ∷ reads Dna3bit (0x05 ∷ 0x39 ∷ 0x77 ∷ []) 2 6 gives writes (bytesOf "GTNR")
     ∷ range 2 6 3 gives yes (0 ∷ 3 ∷ [])
     ∷ range 5 5 2 gives yes (1 ∷ 2 ∷ [])
@@ -172,12 +195,12 @@ rows =
     ∷ reads Protein (0xe8 ∷ []) 0 1 gives writes (bytesOf "X")
     ∷ stream Dna3bit 6 4 (0x05 ∷ []) 4 gives moves 1 "" 1 4 (refused 7 (4 ∷ []))
     -- a row of codes for each alphabet
-    ∷ codes Dna2bit "ACGTN" gives bytes (2 ∷ 1 ∷ 3 ∷ 0 ∷ 0xff ∷ [])
-    ∷ codes Dna3bit "TNRYUX" gives bytes (3 ∷ 4 ∷ 5 ∷ 6 ∷ 7 ∷ 0xff ∷ [])
-    ∷ codes DnaIupac "NACMVn" gives bytes (0 ∷ 1 ∷ 2 ∷ 3 ∷ 15 ∷ 0xff ∷ [])
-    ∷ codes Protein "AMK*J?" gives bytes (0 ∷ 10 ∷ 8 ∷ 20 ∷ 28 ∷ 0xff ∷ [])
-    ∷ codes Ascii "Az~" gives bytes (0x41 ∷ 0x7a ∷ 0x7e ∷ [])
-    ∷ codes Unknown "Az~" gives bytes (0x41 ∷ 0x7a ∷ 0x7e ∷ [])
+    ∷ codes Dna2bit keeping "ACGTN" gives bytes (2 ∷ 1 ∷ 3 ∷ 0 ∷ 0xff ∷ [])
+    ∷ codes Dna3bit keeping "TNRYUX" gives bytes (3 ∷ 4 ∷ 5 ∷ 6 ∷ 7 ∷ 0xff ∷ [])
+    ∷ codes DnaIupac keeping "NACMVn" gives bytes (0 ∷ 1 ∷ 2 ∷ 3 ∷ 15 ∷ 0xff ∷ [])
+    ∷ codes Protein keeping "AMK*J?" gives bytes (0 ∷ 10 ∷ 8 ∷ 20 ∷ 28 ∷ 0xff ∷ [])
+    ∷ codes Ascii keeping "Az~" gives bytes (0x41 ∷ 0x7a ∷ 0x7e ∷ [])
+    ∷ codes Unknown keeping "Az~" gives bytes (0x41 ∷ 0x7a ∷ 0x7e ∷ [])
     -- numbers 0 to 5 and the six names; 6 names none
     ∷ name 0 gives bytes (bytesOf "dna2bit")
     ∷ name 1 gives bytes (bytesOf "dna3bit")
@@ -202,14 +225,14 @@ rows =
     ∷ read 0 0 0 1152921504606846977 0 gives no 2
     ∷ read 0 1152921504606846976 0 1 1 gives yes (1 ∷ [])
     ∷ read 0 1152921504606846977 0 1 1 gives no 2
-    ∷ update (encoder Ascii 1152921504606846975 0 0 First.Nothing) "A" 1 gives yes (1 ∷ [])
-    ∷ update (encoder Ascii 1152921504606846976 0 0 First.Nothing) "A" 1 gives no 2
+    ∷ update (encoder Ascii 1152921504606846975 0 0 First.Nothing keeping) "A" 1 gives yes (1 ∷ [])
+    ∷ update (encoder Ascii 1152921504606846976 0 0 First.Nothing keeping) "A" 1 gives no 2
     -- `byte_range_for_bases`: bits at most 8; 9 before 2
     ∷ range 0 1 9 gives no 9
     ∷ range 1152921504606846977 0 9 gives no 9
     -- `encode_sequence`: 8 before 4, 4 before 5
-    ∷ encode 6 "A" 0 gives no 8
-    ∷ encode 0 "ACNT" 0 gives no 4
+    ∷ encode 6 keeping "A" 0 gives no 8
+    ∷ encode 0 keeping "ACNT" 0 gives no 4
     -- the zero-filling read: empty before 8, 8 before 2, 8 before 4
     ∷ read 6 1152921504606846977 1 1 0 gives yes (0 ∷ [])
     ∷ read 6 0 0 1152921504606846977 9 gives no 8
@@ -229,26 +252,26 @@ rows =
     ∷ start 0 8 0 gives no 6
     ∷ start 6 8 0 gives no 8
     -- the guesser's state: a mask of 16 to 31
-    ∷ masked 15 gives no 1
-    ∷ masked 16 gives yes (4 ∷ [])
-    ∷ masked 31 gives yes (0 ∷ [])
-    ∷ masked 32 gives no 1
+    ∷ masked 15 keeping gives no 1
+    ∷ masked 16 keeping gives yes (4 ∷ [])
+    ∷ masked 31 keeping gives yes (0 ∷ [])
+    ∷ masked 32 keeping gives no 1
     -- the encoder's state: symbols seen, pending bit count, pending value; a first non-member that is a member, stands at `seen`, or stands below it
-    ∷ update (encoder Ascii 1152921504606846977 0 0 First.Nothing) "" 0 gives no 1
-    ∷ update (encoder Dna2bit 1 0 0 First.Nothing) "" 0 gives no 1
-    ∷ update (encoder Dna2bit 1 2 4 First.Nothing) "" 0 gives no 1
-    ∷ update (encoder Dna2bit 1 2 3 First.Nothing) "" 0 gives yes (0 ∷ [])
-    ∷ finalize (encoder Dna2bit 1 2 3 (First.At 0 0x41)) 1 gives no 1
-    ∷ finalize (encoder Dna2bit 1 2 3 (First.At 1 0x4e)) 1 gives no 1
-    ∷ finalize (encoder Dna2bit 1 2 3 (First.At 0 0x4e)) 1 gives tells (refused 5 (0 ∷ 0x4e ∷ []))
+    ∷ update (encoder Ascii 1152921504606846977 0 0 First.Nothing keeping) "" 0 gives no 1
+    ∷ update (encoder Dna2bit 1 0 0 First.Nothing keeping) "" 0 gives no 1
+    ∷ update (encoder Dna2bit 1 2 4 First.Nothing keeping) "" 0 gives no 1
+    ∷ update (encoder Dna2bit 1 2 3 First.Nothing keeping) "" 0 gives yes (0 ∷ [])
+    ∷ finalize (encoder Dna2bit 1 2 3 (First.At 0 0x41) keeping) 1 gives no 1
+    ∷ finalize (encoder Dna2bit 1 2 3 (First.At 1 0x4e) keeping) 1 gives no 1
+    ∷ finalize (encoder Dna2bit 1 2 3 (First.At 0 0x4e) keeping) 1 gives tells (refused 5 (0 ∷ 0x4e ∷ []))
     -- `update`: 1 before 2 and 4, 2 before 4
-    ∷ update (encoder Ascii 1152921504606846976 1 0 First.Nothing) "A" 1 gives no 1
-    ∷ update (encoder Dna2bit 1 0 0 First.Nothing) "ACGT" 0 gives no 1
-    ∷ update (encoder Ascii 1152921504606846976 0 0 First.Nothing) "A" 0 gives no 2
+    ∷ update (encoder Ascii 1152921504606846976 1 0 First.Nothing keeping) "A" 1 gives no 1
+    ∷ update (encoder Dna2bit 1 0 0 First.Nothing keeping) "ACGT" 0 gives no 1
+    ∷ update (encoder Ascii 1152921504606846976 0 0 First.Nothing keeping) "A" 0 gives no 2
     -- `finalize`: 1 before 5 (above) and 4, 5 before 4
-    ∷ finalize (encoder Dna2bit 1 2 4 First.Nothing) 0 gives no 1
-    ∷ finalize (encoder Dna2bit 1 2 3 First.Nothing) 0 gives no 4
-    ∷ finalize (encoder Dna2bit 1 2 3 (First.At 0 0x4e)) 0 gives tells (refused 5 (0 ∷ 0x4e ∷ []))
+    ∷ finalize (encoder Dna2bit 1 2 4 First.Nothing keeping) 0 gives no 1
+    ∷ finalize (encoder Dna2bit 1 2 3 First.Nothing keeping) 0 gives no 4
+    ∷ finalize (encoder Dna2bit 1 2 3 (First.At 0 0x4e) keeping) 0 gives tells (refused 5 (0 ∷ 0x4e ∷ []))
     -- the stream's state: skip, pending bit count, pending value, nothing pending while the skip is due; 1 before 7
     ∷ end Dna2bit 0 0 7 127 gives yes []
     ∷ end Dna2bit 0 0 7 128 gives no 1
@@ -256,4 +279,26 @@ rows =
     ∷ end Dna2bit 8 0 0 0 gives no 1
     ∷ end Dna2bit 1 0 1 0 gives no 1
     ∷ end Dna2bit 0 4 8 0 gives no 1
+    -- folding: a lowercase letter stands for its uppercase letter in the four packed alphabets, and a refusal tells the byte as it came
+    ∷ guess folding "acgt" gives kind Dna2bit
+    ∷ guess folding "acgX" gives kind Protein
+    ∷ guess folding "acg[" gives kind Ascii
+    ∷ packs Dna2bit folding "acgt" gives writes (0x9c ∷ [])
+    ∷ packs Dna2bit folding "acnt" gives refuses 5 (2 ∷ 0x6e ∷ [])
+    ∷ codes Dna2bit folding "acgtn[" gives bytes (2 ∷ 1 ∷ 3 ∷ 0 ∷ 0xff ∷ 0xff ∷ [])
+    ∷ codes Dna3bit folding "tnryux" gives bytes (3 ∷ 4 ∷ 5 ∷ 6 ∷ 7 ∷ 0xff ∷ [])
+    ∷ codes DnaIupac folding "nacmv" gives bytes (0 ∷ 1 ∷ 2 ∷ 3 ∷ 15 ∷ [])
+    ∷ codes Protein folding "amk*j." gives bytes (0 ∷ 10 ∷ 8 ∷ 20 ∷ 28 ∷ 23 ∷ [])
+    -- it has no effect in Ascii and Unknown
+    ∷ codes Ascii folding "az" gives bytes (0x61 ∷ 0x7a ∷ [])
+    ∷ codes Unknown folding "az" gives bytes (0x61 ∷ 0x7a ∷ [])
+    -- the choice stays through `update`
+    ∷ sees 31 keeping "acgt" gives yes (16 ∷ 0 ∷ [])
+    ∷ sees 31 folding "acgt" gives yes (31 ∷ 1 ∷ [])
+    ∷ pieces Dna2bit folding "acgtA" "cT" gives joins (accepted (1 ∷ []) ∷ accepted (0 ∷ []) ∷ accepted (1 ∷ []) ∷ []) (0x9c ∷ 0x90 ∷ [])
+    ∷ pieces Dna2bit keeping "ACGTA" "cT" gives joins (accepted (1 ∷ []) ∷ accepted (0 ∷ []) ∷ refused 5 (5 ∷ 0x63 ∷ []) ∷ []) (0x9c ∷ [])
+    -- the encoder's state: a first non-member is none by the state's own choice
+    ∷ finalize (encoder Dna2bit 1 2 3 (First.At 0 0x61) keeping) 1 gives tells (refused 5 (0 ∷ 0x61 ∷ []))
+    ∷ finalize (encoder Dna2bit 1 2 3 (First.At 0 0x61) folding) 1 gives no 1
+    ∷ finalize (encoder Dna2bit 1 2 3 (First.At 0 0x6e) folding) 1 gives tells (refused 5 (0 ∷ 0x6e ∷ []))
     ∷ []

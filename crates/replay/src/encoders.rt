@@ -1,6 +1,7 @@
 // Calls of the packing layer.
 use crate::answer::Answer;
 use crate::answer::packed;
+use crate::answer::three;
 use crate::answer::unknown;
 use check::same;
 use fantailclock::Encoder;
@@ -13,8 +14,8 @@ use fantailclock::fc_encoder_finalize;
 use fantailclock::fc_encoder_new;
 use fantailclock::fc_encoder_update;
 
-// The state that seven numbers make.
-fn encoder(given: &[u64; 9]) -> Encoder {
+// The state that eight numbers make.
+fn encoder(given: &[u64; 10]) -> Encoder {
     Encoder {
         alphabet: given[0],
         seen: given[1],
@@ -23,14 +24,15 @@ fn encoder(given: &[u64; 9]) -> Encoder {
         has_bad: given[4],
         bad_position: given[5],
         bad_byte: given[6],
+        fold: given[7],
     }
 }
 
 fn started(answer: EncoderStarted) -> Answer {
     let next = answer.next;
     Answer {
-        takes: 1,
-        tells: 8,
+        takes: 2,
+        tells: 9,
         words: [
             answer.refusal,
             next.alphabet,
@@ -40,6 +42,7 @@ fn started(answer: EncoderStarted) -> Answer {
             next.has_bad,
             next.bad_position,
             next.bad_byte,
+            next.fold,
             0,
         ],
     }
@@ -48,8 +51,8 @@ fn started(answer: EncoderStarted) -> Answer {
 fn updated(answer: Updated) -> Answer {
     let next = answer.next;
     Answer {
-        takes: 7,
-        tells: 9,
+        takes: 8,
+        tells: 10,
         words: [
             answer.refusal,
             answer.count,
@@ -60,16 +63,13 @@ fn updated(answer: Updated) -> Answer {
             next.has_bad,
             next.bad_position,
             next.bad_byte,
+            next.fold,
         ],
     }
 }
 
 fn range(answer: Range) -> Answer {
-    Answer {
-        takes: 3,
-        tells: 3,
-        words: [answer.refusal, answer.start, answer.end, 0, 0, 0, 0, 0, 0],
-    }
+    three(3, answer.refusal, answer.start, answer.end)
 }
 
 // The place of a name among these functions, from 1 on; 0 for another.
@@ -93,14 +93,15 @@ fn place(name: &[u8]) -> u64 {
 }
 
 // The answer of the function of that name.
-pub fn answer(name: &[u8], given: &[u64; 9], text: &[u8], out: &mut [u8]) -> Answer {
+pub fn answer(name: &[u8], given: &[u64; 10], text: &[u8], out: &mut [u8]) -> Answer {
     let first = given[0];
+    let second = given[1];
     match place(name) {
-        1 => started(fc_encoder_new(first)),
+        1 => started(fc_encoder_new(first, second)),
         2 => updated(fc_encoder_update(encoder(given), text, out)),
-        3 => packed(7, fc_encoder_finalize(encoder(given), out)),
-        4 => packed(1, fc_encode_sequence(first, text, out)),
-        5 => range(fc_byte_range_for_bases(first, given[1], given[2])),
+        3 => packed(8, fc_encoder_finalize(encoder(given), out)),
+        4 => packed(2, fc_encode_sequence(first, second, text, out)),
+        5 => range(fc_byte_range_for_bases(first, second, given[2])),
         _ => unknown(),
     }
 }

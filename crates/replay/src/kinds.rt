@@ -3,6 +3,7 @@ use crate::answer::Answer;
 use crate::answer::count;
 use crate::answer::number;
 use crate::answer::one;
+use crate::answer::three;
 use crate::answer::two;
 use crate::answer::unknown;
 use check::same;
@@ -17,9 +18,21 @@ use fantailclock::fc_guesser_guess;
 use fantailclock::fc_guesser_new;
 use fantailclock::fc_guesser_update;
 
+// The state that two numbers make.
+fn guesser(given: &[u64; 10]) -> Guesser {
+    Guesser {
+        mask: given[0],
+        fold: given[1],
+    }
+}
+
+fn started(next: Guesser) -> Answer {
+    two(1, next.mask, next.fold)
+}
+
 fn guessing(answer: Guessing) -> Answer {
     let next = answer.next;
-    two(1, answer.refusal, next.mask)
+    three(2, answer.refusal, next.mask, next.fold)
 }
 
 // The place of a name among these functions, from 1 on; 0 for another.
@@ -52,7 +65,7 @@ fn place(name: &[u8]) -> u64 {
 }
 
 // The answer of the function of that name.
-pub fn answer(name: &[u8], given: &[u64; 9], text: &[u8], out: &mut [u8]) -> Answer {
+pub fn answer(name: &[u8], given: &[u64; 10], text: &[u8], out: &mut [u8]) -> Answer {
     let first = given[0];
     let second = given[1];
     match place(name) {
@@ -60,10 +73,10 @@ pub fn answer(name: &[u8], given: &[u64; 9], text: &[u8], out: &mut [u8]) -> Ans
         2 => number(1, fc_bits_per_symbol(first)),
         3 => number(2, fc_contains(first, second)),
         4 => count(1, fc_display_name(first, out)),
-        5 => one(0, fc_guesser_new().mask),
-        6 => guessing(fc_guesser_update(Guesser { mask: first }, text)),
-        7 => number(1, fc_guesser_guess(Guesser { mask: first })),
-        8 => number(0, fc_guess_alphabet(text)),
+        5 => started(fc_guesser_new(first)),
+        6 => guessing(fc_guesser_update(guesser(given), text)),
+        7 => number(2, fc_guesser_guess(guesser(given))),
+        8 => number(1, fc_guess_alphabet(first, text)),
         _ => unknown(),
     }
 }

@@ -84,13 +84,13 @@ fn number(line: &[u8], at: usize) -> Value
     }
 }
 
-// The numbers from `at` on, up to nine.
-pub fn read_numbers(line: &[u8], at: usize, out: &mut [u64; 9]) -> Row
-    ensures { λ r. ⌜ r .count ≤ 9 ⌝ }
+// The numbers from `at` on, up to ten.
+pub fn read_numbers(line: &[u8], at: usize, out: &mut [u64; 10]) -> Row
+    ensures { λ r. ⌜ r .count ≤ 10 ⌝ }
 {
     let mut count = 0;
     let mut next = at;
-    while count < 9 {
+    while count < 10 {
         let one = number(line, next);
         if !one.found {
             break;

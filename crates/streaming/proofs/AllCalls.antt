@@ -180,9 +180,9 @@ module _ (kind : AlphabetType) (q budget : ℕ) (lent : List ℕ) where
         k = min (min budget (p .k + room)) (avail / W)
 
         fills : k * W ≤ avail
-        fills = le-div-iff-mul-le {k = W} {x = k} {y = avail} (lawful kind .some-bits) .0 (omega arith)
+        fills = le-div-iff-mul-le {k = W} {x = k} {y = avail} (lawful false kind .some-bits) .0 (omega arith)
 
         least : (j : ℕ) → j ≤ budget → j ≤ p .k + room → bytesFor (q + j * W) ≤ offered A q budget lent p m → j ≤ k
         least j a b c =
-            let part : j ≤ avail / W = le-div-iff-mul-le {k = W} {x = j} {y = avail} (lawful kind .some-bits) .1 (omega arith) in
+            let part : j ≤ avail / W = le-div-iff-mul-le {k = W} {x = j} {y = avail} (lawful false kind .some-bits) .1 (omega arith) in
             omega arith

@@ -7,6 +7,7 @@ use Prim.Native.Nat.{ℕ, _^_, _≤_, _<_}
 use native.Mathlib.Omega.{arith}
 use borrow.Author.Tests.{ltb-true, eqb-true, lt-ltb, le-ltb}
 use lib.Dec.{ltb, eqb}
+use Rattle.bits.proofs.Computed.{both-true}
 use Rattle.alphabet.specs.declared.kind.AlphabetType.{AlphabetType}
 use Rattle.alphabet.specs.declared.kind.Named.{Named}
 use Rattle.alphabet.specs.declared.refusal.Refusal.{Refusal}
@@ -20,10 +21,6 @@ use Rattle.streaming.specs.declared.decoder.StreamStarted.{StreamStarted
 use Rattle.streaming.specs.Stream.{freshStream, soundStream, startStreamAt}
 
 -- ---- question 4
-
-and-true : (x y : Bool) → x && y ≡ true → (x ≡ true) × (y ≡ true)
-and-true true y e = (refl, e)
-and-true false y e = absurd (let z : _≡_ {A = ℕ} 0 1 = cc in omega arith)
 
 pub or-true : (x y : Bool) → x || y ≡ true → (x ≡ true) ⊎ (y ≡ true)
 or-true true y e = inl refl
@@ -40,9 +37,9 @@ module _ (s : StreamingDecoder) where
   pub sound-facts : soundStream s ≡ true → Sound s
   unfolding soundStream
   sound-facts e =
-      let three = and-true (ltb (s .skip) 8 && ltb (s .bits) 8 && ltb (s .pending) (2 ^ s .bits)) (eqb (s .skip) 0 || eqb (s .bits) 0) e in
-      let two = and-true (ltb (s .skip) 8 && ltb (s .bits) 8) (ltb (s .pending) (2 ^ s .bits)) (three .0) in
-      let one = and-true (ltb (s .skip) 8) (ltb (s .bits) 8) (two .0) in
+      let three = both-true (ltb (s .skip) 8 && ltb (s .bits) 8 && ltb (s .pending) (2 ^ s .bits)) (eqb (s .skip) 0 || eqb (s .bits) 0) e in
+      let two = both-true (ltb (s .skip) 8 && ltb (s .bits) 8) (ltb (s .pending) (2 ^ s .bits)) (three .0) in
+      let one = both-true (ltb (s .skip) 8) (ltb (s .bits) 8) (two .0) in
       record {
         skips = ltb-true (s .skip) 8 (one .0);
         few = ltb-true (s .bits) 8 (one .1);
@@ -93,7 +90,7 @@ module _ (alphabet skip budget : ℕ) where
 module _ (k : AlphabetType) where
   -- where a base has eight bits it is a byte as it stands
   pub plain-of-eight : coding k .width ≡ 8 → (c : ℕ) → coding k .symbol c ≡ c
-  plain-of-eight e c = go (shape k)
+  plain-of-eight e c = go (shape false k)
     where
       go : Packed (coding k) ⊎ Plain (coding k) → coding k .symbol c ≡ c
       go (inl p) = absurd (omega (arith, p .five))
@@ -101,7 +98,7 @@ module _ (k : AlphabetType) where
 
   -- and else it has at most five
   pub packed-else : (coding k .width ≡ 8 → ⊥) → coding k .width ≤ 5
-  packed-else h = go (shape k)
+  packed-else h = go (shape false k)
     where
       go : Packed (coding k) ⊎ Plain (coding k) → coding k .width ≤ 5
       go (inl p) = p .five

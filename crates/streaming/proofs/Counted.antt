@@ -1,6 +1,6 @@
 -- The bases of a call: the largest number, as document 01 says, and its closed form.
 use mathlib.Core.Path.{_≡_, sym}
-use mathlib.Core.Bool.{Bool, true, _||_}
+use mathlib.Core.Bool.{Bool, true, false, _||_}
 use mathlib.Core.List.{List}
 use mathlib.Core.Logic.{_⊎_, inl, inr}
 use Prim.Native.Nat.{ℕ, _+_, _-_, _*_, _/_, _≤_, _<_, min}
@@ -99,11 +99,11 @@ module _ (s : StreamingDecoder) (source : List ℕ) (room : ℕ) (sound : soundS
       n = min (min (s .budget) room) (avail / W)
 
       fills : n * W ≤ avail
-      fills = le-div-iff-mul-le {k = W} {x = n} {y = avail} (lawful (s .alphabet) .some-bits) .0 (omega arith)
+      fills = le-div-iff-mul-le {k = W} {x = n} {y = avail} (lawful false (s .alphabet) .some-bits) .0 (omega arith)
 
       least : (m : ℕ) → m ≤ s .budget → m ≤ room → takes s m ≤ length source → m ≤ n
       least m a b c =
-          let part : m ≤ avail / W = le-div-iff-mul-le {k = W} {x = m} {y = avail} (lawful (s .alphabet) .some-bits) .1 (omega arith) in
+          let part : m ≤ avail / W = le-div-iff-mul-le {k = W} {x = m} {y = avail} (lawful false (s .alphabet) .some-bits) .1 (omega arith) in
           omega arith
 
   -- ---- the status
@@ -130,10 +130,10 @@ module _ (s : StreamingDecoder) (source : List ℕ) (room : ℕ) (sound : soundS
       short = bits-short s (n + 1) source lacks n (used-add s n 1)
 
       used-up : takes s n ≡ length source
-      used-up = takes-all s n source short (bases-most .suffices) (lawful (s .alphabet) .narrow)
+      used-up = takes-all s n source short (bases-most .suffices) (lawful false (s .alphabet) .narrow)
 
       few-pend : s .bits + takes s n * 8 - used s n < readsBy s .width
-      few-pend = omega (arith, short, used-up, lawful (s .alphabet) .some-bits)
+      few-pend = omega (arith, short, used-up, lawful false (s .alphabet) .some-bits)
 
 -- ---- the next state
 

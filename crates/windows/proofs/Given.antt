@@ -1,6 +1,7 @@
--- Reads of a packed text: for a window within the text every question is answered yes, and the symbols stand at the front of memory afterwards.
+-- Reads of a packed text, whatever the choice to fold by which it was packed: for a window within the text every question is answered yes, and the symbols stand
+-- at the front of memory afterwards.
 use mathlib.Core.Path.{_≡_, ap}
-use mathlib.Core.Bool.{true, _&&_}
+use mathlib.Core.Bool.{Bool, true, _&&_}
 use mathlib.Core.List.{List, map}
 use Prim.Native.Nat.{ℕ, _+_, _-_, _*_, _≤_, _<_}
 use native.Mathlib.Nat.{mul-le-mul-left, mul-le-mul-right}
@@ -13,7 +14,7 @@ use Rattle.bits.specs.Packing.{pack, fileByte, firstByte, endByte}
 use Rattle.bits.specs.Memory.{front}
 use Rattle.alphabet.specs.Questions.{limit, inBounds}
 use Rattle.alphabet.specs.Symbols.{Coding}
-use Rattle.alphabet.specs.Names.{known, kindOf, numbered}
+use Rattle.alphabet.specs.Names.{known, kindOf, numberedBy}
 use Rattle.alphabet.proofs.Laws.{lawful}
 use Rattle.windows.specs.declared.read.Read.{Read}
 use Rattle.windows.specs.Window.{window, covers, readAt, coveredAt, readWrites, readMemory, coveredMemory}
@@ -28,9 +29,9 @@ pub record Serves (A : Coding) (text lent : List ℕ) (offset s e : ℕ) : Type 
   pub begins : offset ≤ firstByte (A .width) s
   pub own : (k : ℕ) → s * A .width ≤ k → k < e * A .width → bitAt 8 (fileByte lent offset) k ≡ bitAt 8 (at (pack (A .width) (map (A .code) text))) k
 
-module _ (alphabet : ℕ) (text lent : List ℕ) (offset s e : ℕ) (serves : Serves (numbered alphabet) text lent offset s e) where
+module _ (fold : Bool) (alphabet : ℕ) (text lent : List ℕ) (offset s e : ℕ) (serves : Serves (numberedBy fold alphabet) text lent offset s e) where
   abbrev A : Coding
-  A = numbered alphabet
+  A = numberedBy fold alphabet
 
   abbrev symbols : List ℕ
   symbols = map (A .canon) (take (e - s) (drop s text))
@@ -38,13 +39,13 @@ module _ (alphabet : ℕ) (text lent : List ℕ) (offset s e : ℕ) (serves : Se
   -- the first symbols of the window, however many
   pub window-first : (n : ℕ) → s + n ≤ e → window A lent offset s n ≡ map (A .canon) (take n (drop s text))
   window-first n h =
-      window-of-text A (lawful (kindOf alphabet)) text lent offset s n (omega (arith, serves .inside)) (λ i l. serves .members (s + i) (omega (arith, serves .inside)))
+      window-of-text A (lawful fold (kindOf alphabet)) text lent offset s n (omega (arith, serves .inside)) (λ i l. serves .members (s + i) (omega (arith, serves .inside)))
       (λ k a b. serves .own k a (omega (arith, mul-le-mul-right (A .width) h)))
 
   module _ (named : known alphabet ≡ true) (memory : List ℕ) (room : e - s ≤ length memory) where
     near : inBounds e && inBounds offset ≡ true
     near =
-        let narrow : s * A .width ≤ s * 8 = mul-le-mul-left s (lawful (kindOf alphabet) .narrow) in
+        let narrow : s * A .width ≤ s * 8 = mul-le-mul-left s (lawful fold (kindOf alphabet) .narrow) in
         let end-near : inBounds e ≡ true = le-leb e limit (omega (arith, serves .inside, serves .bounded)) in
         let first-near : inBounds offset ≡ true = le-leb offset limit (omega (arith, serves .some, serves .inside, serves .bounded, serves .begins)) in
         rw (end-near, first-near)
@@ -55,7 +56,7 @@ module _ (alphabet : ℕ) (text lent : List ℕ) (offset s e : ℕ) (serves : Se
     read-told = rw (lt-ltb s e (serves .some), named, near, le-leb (e - s) (length memory) room)
 
     pub read-left : readMemory alphabet lent offset s e memory ≡ front symbols memory
-    unfolding readMemory readWrites
+    unfolding readMemory readWrites window
     read-left = rw read-told (ap (λ (l : List ℕ). front l memory) (window-first (e - s) (omega (arith, serves .some))))
 
     -- the covered read, where the lent bytes reach the range's end
@@ -65,9 +66,9 @@ module _ (alphabet : ℕ) (text lent : List ℕ) (offset s e : ℕ) (serves : Se
       covering = rw (le-leb offset (firstByte (A .width) s) (serves .begins), le-leb (endByte (A .width) e) (offset + length lent) ends)
 
       pub covered-told : coveredAt alphabet lent offset s e (length memory) ≡ Read.Bases (e - s)
-      unfolding coveredAt
+      unfolding coveredAt covers
       covered-told = rw (lt-ltb s e (serves .some), named, near, covering, le-leb (e - s) (length memory) room)
 
       pub covered-left : coveredMemory alphabet lent offset s e memory ≡ front symbols memory
-      unfolding coveredMemory readWrites
+      unfolding coveredMemory readWrites window
       covered-left = rw covered-told (ap (λ (l : List ℕ). front l memory) (window-first (e - s) (omega (arith, serves .some))))

@@ -1,5 +1,6 @@
 -- Windows that are read by whole bytes: blocks of codes over any width, and plain bytes.
 use mathlib.Core.Path.{_≡_, refl, sym, ap, _∙_}
+use mathlib.Core.Bool.{false}
 use mathlib.Core.List.{List, [], _∷_, map}
 use mathlib.Core.Logic.{⊎-elim}
 use Prim.Native.Nat.{ℕ, suc, _+_, _-_, _*_, _/_, _%_, _^_, _≤_, _<_, min}
@@ -290,10 +291,10 @@ module _ (lent : List ℕ) (offset start count : ℕ) (memory : List ℕ) (room 
 -- ---- the two shapes of alphabets, by their width
 
 pub plain-of : (k : AlphabetType) → coding k .width ≡ 8 → Plain (coding k)
-plain-of k e = ⊎-elim (λ p. absurd (omega (arith, p .five))) (λ p. p) (shape k)
+plain-of k e = ⊎-elim (λ p. absurd (omega (arith, p .five))) (λ p. p) (shape false k)
 
 pub five-of : (k : AlphabetType) → (coding k .width ≡ 8 → ⊥) → coding k .width ≤ 5
-five-of k e = ⊎-elim (λ p. p .five) (λ p. absurd (e (p .eight))) (shape k)
+five-of k e = ⊎-elim (λ p. p .five) (λ p. absurd (e (p .eight))) (shape false k)
 
 -- ---- what an engine wrote, as a window of the kind that was asked for
 

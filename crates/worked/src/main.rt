@@ -60,18 +60,27 @@ fn print_front(memory: &[u8], count: usize) {
     }
 }
 
-fn pack(label: &[u8], alphabet: u64, text: &[u8]) {
+fn pack(label: &[u8], alphabet: u64, fold: bool, text: &[u8]) {
     print(label);
     let mut out = [0xAA; 9];
-    match coder::encode_sequence(alphabet, text, &mut out) {
+    match coder::encode_sequence(alphabet, fold, text, &mut out) {
         Encoded::Wrote(count) => print_front(&out, count),
         Encoded::Refused(refusal) => print_refusal(refusal),
     }
 }
 
+fn finish(encoder: SequenceEncoder) {
+    print(b"finalize: ");
+    let mut out = [0xAA; 9];
+    match encoder.finalize(&mut out) {
+        Finalized::Wrote(count) => print_front(&out, count),
+        Finalized::Refused(refusal, _) => print_refusal(refusal),
+    }
+}
+
 // A text by one `update`, then `finalize`.
 fn pack_by_update(alphabet: u64, text: &[u8]) {
-    let EncoderStarted::Fresh(encoder) = SequenceEncoder::new(alphabet) else {
+    let EncoderStarted::Fresh(encoder) = SequenceEncoder::new(alphabet, false) else {
         return;
     };
     let mut out = [0xAA; 9];
@@ -80,11 +89,26 @@ fn pack_by_update(alphabet: u64, text: &[u8]) {
     };
     print(b"update ACNT: ");
     print_front(&out, count);
-    print(b"finalize: ");
-    match next.finalize(&mut out) {
-        Finalized::Wrote(count) => print_front(&out, count),
-        Finalized::Refused(refusal, _) => print_refusal(refusal),
-    }
+    finish(next);
+}
+
+// Two pieces with folding, then `finalize`: the choice stays in the state.
+fn pack_folding(alphabet: u64, one: &[u8], two: &[u8]) {
+    let EncoderStarted::Fresh(encoder) = SequenceEncoder::new(alphabet, true) else {
+        return;
+    };
+    let mut out = [0xAA; 9];
+    let Updated::Wrote(first, middle) = encoder.update(one, &mut out) else {
+        return;
+    };
+    print(b"update acgta, folding: ");
+    print_front(&out, first);
+    let Updated::Wrote(second, next) = middle.update(two, &mut out) else {
+        return;
+    };
+    print(b"update cnt: ");
+    print_front(&out, second);
+    finish(next);
 }
 
 // The same, as letters.
@@ -101,6 +125,23 @@ fn print_read(label: &[u8], read: Read, out: &[u8]) {
         Read::Bases(count) => print_text(out, count),
         Read::Refused(refusal) => print_refusal(refusal),
     }
+}
+
+fn guess(label: &[u8], fold: bool, text: &[u8]) {
+    print(label);
+    let name = alphabet::guess_alphabet(fold, text).display_name();
+    print_text(&name.bytes, name.len);
+}
+
+// Lowercase letters, as they are and with folding.
+fn folding() {
+    guess(b"guess acgt: ", false, b"acgt");
+    guess(b"guess acgt, folding: ", true, b"acgt");
+    pack(b"Dna2bit acgt: ", 0, false, b"acgt");
+    pack(b"Dna2bit acgt, folding: ", 0, true, b"acgt");
+    pack(b"Dna2bit acnt, folding: ", 0, true, b"acnt");
+    pack(b"Ascii az, folding: ", 4, true, b"az");
+    pack_folding(0, b"acgta", b"cnt");
 }
 
 fn windows() {
@@ -154,13 +195,14 @@ fn stream() {
 }
 
 fn main() {
-    pack(b"UCSC TCAG: ", 0, b"TCAG");
-    pack(b"Dna2bit ACGT: ", 0, b"ACGT");
-    pack(b"Dna3bit ACGTNRYU: ", 1, b"ACGTNRYU");
-    pack(b"DnaIupac NACM: ", 2, b"NACM");
-    pack(b"Protein MK*: ", 3, b"MK*");
-    pack(b"Dna2bit ACNT: ", 0, b"ACNT");
+    pack(b"UCSC TCAG: ", 0, false, b"TCAG");
+    pack(b"Dna2bit ACGT: ", 0, false, b"ACGT");
+    pack(b"Dna3bit ACGTNRYU: ", 1, false, b"ACGTNRYU");
+    pack(b"DnaIupac NACM: ", 2, false, b"NACM");
+    pack(b"Protein MK*: ", 3, false, b"MK*");
+    pack(b"Dna2bit ACNT: ", 0, false, b"ACNT");
     pack_by_update(0, b"ACNT");
+    folding();
     windows();
     stream();
 }

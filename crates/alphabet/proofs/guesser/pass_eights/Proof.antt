@@ -3,15 +3,16 @@ use Prim.Native.Nat.{ℕ, _-_, _+_, _≤_}
 use native.Mathlib.Omega.{arith}
 use borrow.Author.Needs.{needs}
 use lib.ListN.{drop}
+use Rattle.alphabet.specs.Symbols.{folded}
 use Rattle.alphabet.specs.Guess.{masked}
 use Rattle.alphabet.proofs.guesser.pass_eights.Statement.{statement}
 use Rattle.alphabet.proofs.guesser.pass_eights.Tie as tie
 
 abbrev Inv-loop : tie.InvT-loop
-Inv-loop masks acc text start end i₀ i = ((start ≤ i) × (i ≤ end)) × (masked acc (drop i text) ≡ masked acc (drop start text))
+Inv-loop masks fold acc text start end i₀ i = ((start ≤ i) × (i ≤ end)) × (masked acc (drop i (folded fold text)) ≡ masked acc (drop start (folded fold text)))
 
 abbrev μ-loop : tie.MeasureT-loop
-μ-loop masks acc text start end i₀ i = end - i
+μ-loop masks fold acc text start end i₀ i = end - i
 
 loop-holds : tie.Need-loop-holds Inv-loop μ-loop
 loop-holds c = ((omega arith, c .before .pre .1 .0), refl)
@@ -41,7 +42,7 @@ loop-again c =
     let a = l .before .before .args in
     let same : c .before .after-eight .result ≡ a .acc = c .if1 .left in (
       (omega arith, omega (arith, t .loop-test .taken)),
-      ap (λ (m : ℕ). masked m (drop (o .i + 8) (a .text .now))) (sym same) ∙ c .before .after-eight .ensures ∙ o .inv .1,
+      ap (λ (m : ℕ). masked m (drop (o .i + 8) (folded (a .fold) (a .text .now)))) (sym same) ∙ c .before .after-eight .ensures ∙ o .inv .1,
     )
 
 returns-2 : tie.Need-returns-2 Inv-loop μ-loop

@@ -1,24 +1,31 @@
 use mathlib.Core.Path.{_≡_, refl, ap, _∙_}
+use mathlib.Core.Bool.{Bool}
 use mathlib.Core.List.{List}
 use Prim.Native.Nat.{ℕ, _-_, _≤_}
 use native.Mathlib.Omega.{arith}
 use borrow.Author.Needs.{needs}
 use lib.ListN.{length, take, drop, length-drop}
 use lib.Seq.{take-all}
+use Rattle.alphabet.specs.Symbols.{folded}
 use Rattle.alphabet.specs.Bases.{Run}
 use Rattle.alphabet.specs.Guess.{masked}
+use Rattle.alphabet.proofs.Folding.{length-folded, folded-drop}
 use Rattle.alphabet.proofs.Runs.{masked-run}
 use Rattle.alphabet.proofs.Turns.{scan-done}
 use Rattle.alphabet.proofs.guesser.scan.Statement.{statement}
 use Rattle.alphabet.proofs.guesser.scan.Tie as tie
 
 -- what follows the bases that a text begins with gives what the whole text gives
-past-bases : (mask : ℕ) (text : List ℕ) (start : ℕ) → mask ≤ 31 → Run text 0 (length text) start → masked mask (drop start text) ≡ masked mask text
-past-bases mask text start h run = masked-run mask text 0 (length text) start h (omega arith) (omega arith) run refl
+past-bases : (fold : Bool) (mask : ℕ) (text : List ℕ) (start : ℕ) → mask ≤ 31 → Run (folded fold text) 0 (length text) start
+    → masked mask (drop start (folded fold text)) ≡ masked mask (folded fold text)
+past-bases fold mask text start h run = masked-run mask (folded fold text) 0 (length text) start h (omega arith) (omega (arith, length-folded fold text)) run refl
 
 -- the part of a text from a place on, as it is lent
-part-past : (mask : ℕ) (text : List ℕ) (start : ℕ) → masked mask (take (length text - start) (drop start text)) ≡ masked mask (drop start text)
-part-past mask text start = ap (masked mask) (take-all (length text - start) (drop start text) (omega (arith, length-drop start text)))
+part-past : (fold : Bool) (mask : ℕ) (text : List ℕ) (start : ℕ)
+    → masked mask (folded fold (take (length text - start) (drop start text))) ≡ masked mask (drop start (folded fold text))
+part-past fold mask text start =
+    ap (λ (l : List ℕ). masked mask (folded fold l)) (take-all (length text - start) (drop start text) (omega (arith, length-drop start text)))
+    ∙ ap (masked mask) (folded-drop fold start text)
 
 pass-bases-requires : tie.Need-pass-bases-requires
 pass-bases-requires c κs = search needs
@@ -28,7 +35,9 @@ returns c =
     let b = c .before .pass-bases in
     let s = c .before .before .before in
     let a = s .args in
-    scan-done (a .sequence .now) (a .mask) (b .result) (c .if1 .taken) (past-bases (a .mask) (a .sequence .now) (b .result) (s .pre .1) (b .ensures))
+    let text : List ℕ = folded (a .fold) (a .sequence .now) in
+    let whole : length text ≤ b .result = omega (arith, c .if1 .taken, length-folded (a .fold) (a .sequence .now)) in
+    scan-done text (a .mask) (b .result) whole (past-bases (a .fold) (a .mask) (a .sequence .now) (b .result) (s .pre .1) (b .ensures))
 
 sub-scan-chunks : tie.Need-sub-scan-chunks
 sub-scan-chunks c = search needs
@@ -47,7 +56,9 @@ returns-2 c =
     let b = c .before .before .before .pass-bases in
     let s = c .before .before .before .before .before in
     let a = s .args in
-    c .scan-chunks .ensures ∙ part-past (a .mask) (a .sequence .now) (b .result) ∙ past-bases (a .mask) (a .sequence .now) (b .result) (s .pre .1) (b .ensures)
+    c .scan-chunks .ensures
+    ∙ part-past (a .fold) (a .mask) (a .sequence .now) (b .result)
+    ∙ past-bases (a .fold) (a .mask) (a .sequence .now) (b .result) (s .pre .1) (b .ensures)
 
 pub scan-spec : {M : Type 1} → statement M
 scan-spec =

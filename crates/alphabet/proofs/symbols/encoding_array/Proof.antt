@@ -2,7 +2,7 @@ use mathlib.Core.Path.{sym, ap, _∙_}
 use borrow.Author.Needs.{needs}
 use Rattle.bits.specs.Tables.{tabulate, bytesOf}
 use Rattle.alphabet.specs.declared.kind.AlphabetType.{AlphabetType}
-use Rattle.alphabet.specs.Symbols.{coded, dna2bit, dna3bit, dnaIupac, protein, canon, listed, plain, coding}
+use Rattle.alphabet.specs.Symbols.{coded, dna2bit, dna3bit, dnaIupac, protein, listed, plain, coding}
 use Rattle.alphabet.proofs.symbols.encoding_array.Statement.{statement}
 use Rattle.alphabet.proofs.symbols.encoding_array.Tie as tie
 
@@ -55,19 +55,19 @@ identity-256-requires-2 : tie.Need-identity-256-requires-2
 identity-256-requires-2 c κs = search needs
 
 returns : tie.Need-returns
-unfolding coding listed canon dna2bit coded bytesOf
+unfolding coding listed dna2bit coded bytesOf
 returns c = c .build-encoding .ensures ∙ ap (λ (k : AlphabetType). tabulate 256 (coding k .code)) (sym (c .before .before .enum-told .given .1))
 
 returns-2 : tie.Need-returns-2
-unfolding coding listed canon dna3bit coded bytesOf
+unfolding coding listed dna3bit coded bytesOf
 returns-2 c = c .build-encoding2 .ensures ∙ ap (λ (k : AlphabetType). tabulate 256 (coding k .code)) (sym (c .before .before .enum-told2 .given .1))
 
 returns-3 : tie.Need-returns-3
-unfolding coding listed canon dnaIupac coded bytesOf
+unfolding coding listed dnaIupac coded bytesOf
 returns-3 c = c .build-encoding3 .ensures ∙ ap (λ (k : AlphabetType). tabulate 256 (coding k .code)) (sym (c .before .before .enum-told3 .given .1))
 
 returns-4 : tie.Need-returns-4
-unfolding coding listed canon protein coded bytesOf
+unfolding coding listed protein coded bytesOf
 returns-4 c = c .build-encoding4 .ensures ∙ ap (λ (k : AlphabetType). tabulate 256 (coding k .code)) (sym (c .before .before .enum-told4 .given .1))
 
 returns-5 : tie.Need-returns-5

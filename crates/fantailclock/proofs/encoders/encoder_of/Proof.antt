@@ -3,6 +3,10 @@ use Rattle.fantailclock.proofs.Hosted.{outside-none, outside-some}
 use Rattle.fantailclock.proofs.encoders.encoder_of.Statement.{statement}
 use Rattle.fantailclock.proofs.encoders.encoder_of.Tie as tie
 
+-- the alphabet's number, from where the choice has its own
+abbrev number : tie.After-number-of-fold → tie.After-number
+number c = c .before .before .before
+
 number-requires : tie.Need-number-requires
 number-requires c κs = search needs
 
@@ -12,25 +16,30 @@ cast-pending-bits c = search needs
 cast-pending : tie.Need-cast-pending
 cast-pending c = search needs
 
+number-of-fold-requires : tie.Need-number-of-fold-requires
+number-of-fold-requires c κs = search needs
+
 enum-told : tie.Need-enum-told
 enum-told c = search needs
 
 enum-known-first : tie.Need-enum-known-first
 enum-known-first c = search needs
 
-cast-t12 : tie.Need-cast-t12
-cast-t12 c = search needs
+cast-t13 : tie.Need-cast-t13
+cast-t13 c = search needs
 
 returns : tie.Need-returns
 returns c =
-    let n = c .before .before .before .before in
-    outside-none (n .before .args .state) (n .number .result) (n .number .ensures) (c .enum-told .given .1)
+    let fold = c .before .before in
+    let n = number fold in
+    outside-none (n .before .args .state) _ (n .number .ensures) _ (fold .number-of-fold .ensures) (c .enum-told .given .1)
 
 returns-2 : tie.Need-returns-2
 returns-2 c =
     let first = c .before in
-    let n = first .before .before .before .before in
-    outside-some (n .before .args .state) (n .number .result) _ _ (n .number .ensures) (first .first .given .1)
+    let fold = first .before .before in
+    let n = number fold in
+    outside-some (n .before .args .state) _ (n .number .ensures) _ (fold .number-of-fold .ensures) _ _ (first .first .given .1)
 
 pub encoder-of-spec : {M : Type 1} → statement M
 encoder-of-spec =
@@ -39,8 +48,9 @@ encoder-of-spec =
     number-requires
     cast-pending-bits
     cast-pending
+    number-of-fold-requires
     enum-told
     enum-known-first
-    cast-t12
+    cast-t13
     returns
     returns-2)

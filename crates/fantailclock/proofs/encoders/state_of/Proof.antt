@@ -62,20 +62,25 @@ returns-4 c =
 first-in-requires : tie.Need-first-in-requires
 first-in-requires c κs = fits (c .before .before .before .before)
 
-cast-t8 : tie.Need-cast-t8
-cast-t8 c = omega (arith, c .before .before .before .before .if2 .left)
+chosen-by-requires : tie.Need-chosen-by-requires
+chosen-by-requires c κs = search needs
 
 cast-t9 : tie.Need-cast-t9
-cast-t9 c = omega (arith, c .before .before .before .if3 .left)
+cast-t9 c = omega (arith, c .before .before .before .before .before .if2 .left)
+
+cast-t10 : tie.Need-cast-t10
+cast-t10 c = omega (arith, c .before .before .before .before .if3 .left)
 
 returns-5 : tie.Need-returns-5
 returns-5 c =
-    let first = c .before .before in
+    let choice = c .before .before in
+    let first = choice .before in
     let small = first .before in
     let low = small .before .before in
     let e = low .before .before in
     let k = kind (e .before) in
     state-fine (call k .args .state) _ (named k) (fits e) (low .if2 .left) (small .if3 .left) (first .first-in .result) (first .first-in .ensures)
+    (choice .chosen-by .result) (choice .chosen-by .ensures)
 
 pub state-of-spec : {M : Type 1} → statement M
 state-of-spec =
@@ -90,6 +95,7 @@ state-of-spec =
     returns-3
     returns-4
     first-in-requires
-    cast-t8
+    chosen-by-requires
     cast-t9
+    cast-t10
     returns-5)

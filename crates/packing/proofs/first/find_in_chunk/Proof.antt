@@ -8,21 +8,14 @@ pass-bases-requires c κs = search needs
 
 find-by-eight-requires : tie.Need-find-by-eight-requires
 find-by-eight-requires c κs =
-    let s = c .before .before .before in
+    let s = c .before .before in
     let a = s .args in
     let p = c .pass-bases .ensures in
-    let usual = s .pre .1 (c .before .if1 .taken) in
-    let bases = passed-bases (a .table .now) (a .text .now) (a .start) (a .end) (c .pass-bases .result) usual (s .pre .0 .passed) p in
+    let bases = passed-bases (a .fold) (a .table .now) (a .text .now) (a .start) (a .end) (c .pass-bases .result) (s .pre .1) (s .pre .0 .passed) p in
     record { ordered = p .until (s .pre .0 .ordered); inside = s .pre .0 .inside; passed = bases }
 
 returns : tie.Need-returns
 returns c = search needs
-
-find-by-eight-requires-2 : tie.Need-find-by-eight-requires-2
-find-by-eight-requires-2 c κs = search needs
-
-returns-2 : tie.Need-returns-2
-returns-2 c = search needs
 
 pub find-in-chunk-spec : {M : Type 1} → statement M
 find-in-chunk-spec =
@@ -30,6 +23,4 @@ find-in-chunk-spec =
     (tie.spec
     pass-bases-requires
     find-by-eight-requires
-    returns
-    find-by-eight-requires-2
-    returns-2)
+    returns)

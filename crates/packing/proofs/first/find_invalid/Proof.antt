@@ -1,25 +1,25 @@
 use mathlib.Core.Path.{_≡_, refl, subst}
-use mathlib.Core.Bool.{true}
 use Prim.Native.Nat.{ℕ, _-_, _≤_}
 use native.Mathlib.Nat.{not-suc-le-zero}
 use native.Mathlib.Omega.{arith}
 use borrow.Author.Needs.{needs}
 use lib.ListN.{length}
-use Rattle.packing.specs.Run.{Passed, Searched, Usual}
+use Rattle.packing.specs.Run.{Passed, Searched}
 use Rattle.packing.proofs.first.find_invalid.Statement.{statement}
 use Rattle.packing.proofs.first.find_invalid.Tie as tie
 
 abbrev Inv-loop : tie.InvT-loop
-Inv-loop table text n usual i₀ i = (n ≡ length text) × (usual ≡ true → Usual table) × (i ≤ n) × Passed table text i
+Inv-loop fold table text n i₀ i = (n ≡ length text) × (i ≤ n) × Passed table text i
 
 abbrev μ-loop : tie.MeasureT-loop
-μ-loop table text n usual i₀ i = n - i
+μ-loop fold table text n i₀ i = n - i
 
-holds-bases-requires : tie.Need-holds-bases-requires Inv-loop μ-loop
-holds-bases-requires c κs = search needs
+-- the entry, from the loop's head
+abbrev entry : tie.At-loop Inv-loop μ-loop → tie.Start Inv-loop μ-loop
+entry h = h .before .before
 
 loop-holds : tie.Need-loop-holds Inv-loop μ-loop
-loop-holds c = (refl, c .holds-bases .ensures, omega arith, λ j h. absurd (not-suc-le-zero h))
+loop-holds c = (refl, omega arith, λ j h. absurd (not-suc-le-zero h))
 
 sub-loop : tie.Need-sub-loop Inv-loop μ-loop
 sub-loop c = search needs
@@ -30,7 +30,7 @@ add-end c = search needs
 find-in-chunk-requires : tie.Need-find-in-chunk-requires Inv-loop μ-loop
 find-in-chunk-requires c κs =
     let o = c .before .loop in
-    (record { ordered = omega arith; inside = omega (arith, c .loop-test .taken, o .inv .0, o .inv .2); passed = o .inv .3 }, o .inv .1)
+    (record { ordered = omega arith; inside = omega (arith, c .loop-test .taken, o .inv .0, o .inv .1); passed = o .inv .2 }, entry (c .before) .pre)
 
 returns : tie.Need-returns Inv-loop μ-loop
 returns c =
@@ -45,16 +45,16 @@ loop-again : tie.Need-loop-again Inv-loop μ-loop
 loop-again c =
     let o = c .before .before .before .loop in
     let f = c .before .find-in-chunk in
-    (o .inv .0, o .inv .1, omega (arith, c .before .before .loop-test .taken, o .inv .2), λ j h. f .ensures .passed j (omega (arith, c .if1 .left)))
+    (o .inv .0, omega (arith, c .before .before .loop-test .taken, o .inv .1), λ j h. f .ensures .passed j (omega (arith, c .if1 .left)))
 
 find-in-chunk-requires-2 : tie.Need-find-in-chunk-requires-2 Inv-loop μ-loop
 find-in-chunk-requires-2 c κs =
     let o = c .before .loop in
-    (record { ordered = o .inv .2; inside = omega (arith, o .inv .0); passed = o .inv .3 }, o .inv .1)
+    (record { ordered = o .inv .1; inside = omega (arith, o .inv .0); passed = o .inv .2 }, entry (c .before) .pre)
 
 returns-2 : tie.Need-returns-2 Inv-loop μ-loop
 returns-2 c =
-    let a = c .before .before .before .before .before .args in
+    let a = entry (c .before .before) .args in
     subst (λ (m : ℕ). Searched (a .table .now) (a .text .now) m (c .find-in-chunk2 .result)) (c .before .before .loop .inv .0) (c .find-in-chunk2 .ensures)
 
 pub find-invalid-spec : {M : Type 1} → statement M
@@ -63,7 +63,6 @@ find-invalid-spec =
     (tie.spec
     Inv-loop
     μ-loop
-    holds-bases-requires
     loop-holds
     sub-loop
     add-end

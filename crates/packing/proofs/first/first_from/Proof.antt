@@ -4,7 +4,7 @@ use native.Mathlib.Omega.{arith}
 use borrow.Author.Needs.{needs}
 use Rattle.bits.specs.Tables.{Bytes}
 use Rattle.alphabet.specs.Symbols.{coding}
-use Rattle.packing.proofs.Search.{found-at, found-none, plain-none}
+use Rattle.packing.proofs.Search.{usual, found-at, found-none, plain-none}
 use Rattle.packing.proofs.first.first_from.Statement.{statement}
 use Rattle.packing.proofs.first.first_from.Tie as tie
 
@@ -28,16 +28,18 @@ returns c =
     let s = start w in
     let a = s .args in
     let wide = subst (λ (n : ℕ). 8 ≤ n) (w .bits-per-symbol .ensures) (c .if1 .taken) in
-    plain-none (a .kind) (a .table .now) (a .text .now) (s .pre .0) (bytes w) (a .from) wide
+    plain-none (a .fold) (a .kind) (a .table .now) (s .pre .0) (a .text .now) (bytes w) (a .from) wide
 
 find-invalid-requires : tie.Need-find-invalid-requires
-find-invalid-requires c κs = search needs
+find-invalid-requires c κs =
+    let s = start (c .before) in
+    usual (s .args .fold) (s .args .kind) (s .args .table .now) (s .pre .0) (narrow c)
 
-add-t8 : tie.Need-add-t8
-add-t8 c = omega (arith, start (c .before .before .before) .pre .1)
+add-t9 : tie.Need-add-t9
+add-t9 c = omega (arith, start (c .before .before .before) .pre .1)
 
-shared-slice-read-t10 : tie.Need-shared-slice-read-t10
-shared-slice-read-t10 c = search needs
+shared-slice-read-t11 : tie.Need-shared-slice-read-t11
+shared-slice-read-t11 c = search needs
 
 returns-2 : tie.Need-returns-2
 returns-2 c =
@@ -45,7 +47,7 @@ returns-2 c =
     let e = f .before in
     let s = start (e .before) in
     let a = s .args in
-    found-at (a .kind) (a .table .now) (a .text .now) (s .pre .0) (bytes (e .before)) (a .from) (f .find-invalid .result) (narrow e) (f .find-invalid .ensures)
+    found-at (a .fold) (a .kind) (a .table .now) (s .pre .0) (a .text .now) (bytes (e .before)) (a .from) (f .find-invalid .result) (narrow e) (f .find-invalid .ensures)
     (c .before .if2 .taken)
 
 returns-3 : tie.Need-returns-3
@@ -54,7 +56,7 @@ returns-3 c =
     let e = f .before in
     let s = start (e .before) in
     let a = s .args in
-    found-none (a .kind) (a .table .now) (a .text .now) (s .pre .0) (bytes (e .before)) (a .from) (f .find-invalid .result) (narrow e) (f .find-invalid .ensures)
+    found-none (a .fold) (a .kind) (a .table .now) (s .pre .0) (a .text .now) (bytes (e .before)) (a .from) (f .find-invalid .result) (narrow e) (f .find-invalid .ensures)
     (c .if2 .left)
 
 pub first-from-spec : {M : Type 1} → statement M
@@ -64,7 +66,7 @@ first-from-spec =
     bits-per-symbol-requires
     returns
     find-invalid-requires
-    add-t8
-    shared-slice-read-t10
+    add-t9
+    shared-slice-read-t11
     returns-2
     returns-3)

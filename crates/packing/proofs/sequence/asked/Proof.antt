@@ -6,7 +6,7 @@ use borrow.Author.Needs.{needs}
 use lib.ListN.{length}
 use Rattle.bits.specs.Packing.{bytesFor}
 use Rattle.alphabet.specs.Questions.{limit}
-use Rattle.alphabet.specs.Symbols.{coding}
+use Rattle.alphabet.specs.Symbols.{Coding, codingBy}
 use Rattle.alphabet.proofs.Laws.{lawful}
 use Rattle.packing.specs.declared.first.First.{First}
 use Rattle.packing.specs.declared.sequence.Encoded.the-variants.{Wrote}
@@ -17,18 +17,22 @@ use Rattle.packing.proofs.sequence.asked.Tie as tie
 abbrev start : tie.Else1 → tie.Start
 start c = c .before .before
 
+-- the coding that it is packed by
+abbrev codingOf : tie.Else1 → Coding
+codingOf c = codingBy (start c .args .fold) (start c .args .kind)
+
 -- the text's bits are few
 product-here : (w : tie.After-bits-per-symbol) → length (start (w .before) .args .text .now) * w .bits-per-symbol .result ≤ limit * 8
 product-here w =
     let a = start (w .before) .args in
     product-le (length (a .text .now)) (w .bits-per-symbol .result) (w .before .if1 .left)
-    (subst (λ (b : ℕ). b ≤ 8) (sym (w .bits-per-symbol .ensures)) (lawful (a .kind) .narrow))
+    (subst (λ (b : ℕ). b ≤ 8) (sym (w .bits-per-symbol .ensures)) (lawful (a .fold) (a .kind) .narrow))
 
 -- past the question the memory holds the packing
 abbrev near : tie.Else2 → tie.Else1
 near c = c .before .before
 
-fits : (c : tie.Else2) → bytesFor (length (start (near c) .args .text .now) * coding (start (near c) .args .kind) .width) ≤ start (near c) .args .room
+fits : (c : tie.Else2) → bytesFor (length (start (near c) .args .text .now) * codingOf (near c) .width) ≤ start (near c) .args .room
 fits c =
     let a = start (near c) .args in
     subst (λ (b : ℕ). bytesFor (length (a .text .now) * b) ≤ a .room) (c .before .bits-per-symbol .ensures) (c .if2 .left)
@@ -36,7 +40,7 @@ fits c =
 returns : tie.Need-returns
 returns c =
     let a = c .before .before .args in
-    encode-long (coding (a .kind)) (a .text .now) (a .room) (c .if1 .taken)
+    encode-long (codingBy (a .fold) (a .kind)) (a .text .now) (a .room) (c .if1 .taken)
 
 bits-per-symbol-requires : tie.Need-bits-per-symbol-requires
 bits-per-symbol-requires c κs = search needs
@@ -52,7 +56,7 @@ returns-2 c =
     let w = c .before in
     let a = start (w .before) .args in
     let short = subst (λ (b : ℕ). a .room < bytesFor (length (a .text .now) * b)) (w .bits-per-symbol .ensures) (c .if2 .taken) in
-    encode-short (coding (a .kind)) (a .text .now) (a .room) (w .before .if1 .left) short
+    encode-short (codingOf (w .before)) (a .text .now) (a .room) (w .before .if1 .left) short
 
 first-from-requires : tie.Need-first-from-requires
 first-from-requires c κs =
@@ -68,7 +72,7 @@ returns-3 c =
     let f = p .before .before in
     let e = f .before in
     let a = start (near e) .args in
-    encode-first (coding (a .kind)) (a .text .now) (a .room) (near e .if1 .left) (fits e) _ (sym (f .first-from .ensures) ∙ p .position .given .1)
+    encode-first (codingOf (near e)) (a .text .now) (a .room) (near e .if1 .left) (fits e) _ (sym (f .first-from .ensures) ∙ p .position .given .1)
 
 enum-told : tie.Need-enum-told
 enum-told c = search needs
@@ -79,7 +83,7 @@ returns-4 c =
     let e = f .before in
     let a = start (near e) .args in
     ap Wrote (ap (λ (b : ℕ). bytesFor (length (a .text .now) * b)) (e .before .bits-per-symbol .ensures))
-    ∙ encode-first (coding (a .kind)) (a .text .now) (a .room) (near e .if1 .left) (fits e) First.Nothing (sym (f .first-from .ensures) ∙ c .enum-told .given .1)
+    ∙ encode-first (codingOf (near e)) (a .text .now) (a .room) (near e .if1 .left) (fits e) First.Nothing (sym (f .first-from .ensures) ∙ c .enum-told .given .1)
 
 pub asked-spec : {M : Type 1} → statement M
 asked-spec =

@@ -5,13 +5,15 @@ use native.Mathlib.Omega.{arith}
 use borrow.Author.Needs.{needs}
 use lib.ListN.{length}
 use lib.Pow.{pow-pos}
+use Rattle.bits.specs.Tables.{tabulate}
 use Rattle.bits.specs.Packing.{bytesFor, pack}
 use Rattle.bits.specs.Memory.{front}
 use Rattle.alphabet.specs.declared.kind.AlphabetType.{AlphabetType}
 use Rattle.alphabet.specs.declared.kind.Named.the-variants.{Kind}
-use Rattle.alphabet.specs.Symbols.{coding}
+use Rattle.alphabet.specs.Symbols.{Coding, codingBy}
 use Rattle.alphabet.specs.Names.{namedAt}
 use Rattle.alphabet.proofs.Laws.{lawful}
+use Rattle.alphabet.proofs.Calls.{codes-folded}
 use Rattle.packing.specs.declared.sequence.Encoded.the-variants.{Wrote}
 use Rattle.packing.specs.Encode.{encodeBy}
 use Rattle.packing.specs.Run.{Pends, looked}
@@ -30,9 +32,33 @@ kind c = c .named .given .0 .0
 named : (c : tie.After-named) → namedAt (start c .args .alphabet) ≡ Kind (kind c)
 named c = sym (c .before .before .kind-of-number .ensures .0) ∙ c .named .given .1
 
+-- the coding that it is packed by
+abbrev codingOf : tie.After-named → Coding
+codingOf c = codingBy (start c .args .fold) (kind c)
+
+-- where the table is folded, and before that the question whether it is to be, the alphabet's table, the alphabet's name
+abbrev effect : tie.After-fold-entries → tie.After-has-effect
+effect t = t .before .before
+
+abbrev listed : tie.After-fold-entries → tie.After-encoding-array
+listed t = effect t .before
+
+abbrev naming : tie.After-fold-entries → tie.After-named
+naming t = listed t .before .before
+
+-- the table has the codes that the text is packed by
+codes : (t : tie.After-fold-entries) → t .fold-entries .last .1 .0 ≡ tabulate 256 (codingOf (naming t) .code)
+codes t =
+    let e = effect t .has-effect in
+    let l = listed t .encoding-array in
+    codes-folded (start (naming t) .args .fold) (e .result) (kind (naming t)) (l .result) (l .ensures) (e .ensures) (t .fold-entries .ensures)
+
 -- where it is answered
+abbrev table : tie.After-asked → tie.After-fold-entries
+table k = k .before .before .before
+
 abbrev found : tie.After-asked → tie.After-named
-found k = k .before .before .before .before
+found k = naming (table k)
 
 -- an accepted text
 abbrev answered : tie.After-enum-told2 → tie.After-asked
@@ -41,7 +67,7 @@ answered t = t .before .before
 abbrev entry : tie.After-enum-told2 → tie.Start
 entry t = start (found (answered t))
 
-wrote : (t : tie.After-enum-told2) → encodeBy (coding (kind (found (answered t)))) (entry t .args .text .now) (length (entry t .args .out .now))
+wrote : (t : tie.After-enum-told2) → encodeBy (codingOf (found (answered t))) (entry t .args .text .now) (length (entry t .args .out .now))
     ≡ Wrote (t .enum-told2 .given .0 .0)
 wrote t = sym (answered t .asked .ensures) ∙ t .enum-told2 .given .1
 
@@ -62,13 +88,22 @@ returns : tie.Need-returns
 returns c =
     let k = c .before .before in
     let a = k .before .before .before .args in
-    encode-unknown (a .alphabet) (a .text .now) (a .out .now) _ (sym (k .kind-of-number .ensures .0) ∙ c .enum-told .given .1)
+    encode-unknown (a .alphabet) (a .fold) (a .text .now) (a .out .now) _ (sym (k .kind-of-number .ensures .0) ∙ c .enum-told .given .1)
 
 encoding-array-requires : tie.Need-encoding-array-requires
 encoding-array-requires c κs = search needs
 
+has-effect-requires : tie.Need-has-effect-requires
+has-effect-requires c κs = search needs
+
+slice-aggregate-fold-entries : tie.Need-slice-aggregate-fold-entries
+slice-aggregate-fold-entries c = search needs
+
+fold-entries-requires : tie.Need-fold-entries-requires
+fold-entries-requires c κs = search needs
+
 asked-requires : tie.Need-asked-requires
-asked-requires c κs = search needs
+asked-requires c κs = codes (c .before .before)
 
 enum-told-2 : tie.Need-enum-told-2
 enum-told-2 c = search needs
@@ -82,8 +117,8 @@ returns-2 c =
     let f = found k in
     let a = start f .args in
     let e = k .asked .ensures in (
-      e ∙ sym (encode-known (a .alphabet) (a .text .now) (a .out .now) (kind f) (named f)),
-      encode-kept (a .alphabet) (a .text .now) (a .out .now) (kind f) (named f) _ (sym e ∙ c .enum-told3 .given .1),
+      e ∙ sym (encode-known (a .alphabet) (a .fold) (a .text .now) (a .out .now) (kind f) (named f)),
+      encode-kept (a .alphabet) (a .fold) (a .text .now) (a .out .now) (kind f) (named f) _ (sym e ∙ c .enum-told3 .given .1),
     )
 
 bits-per-symbol-requires : tie.Need-bits-per-symbol-requires
@@ -96,9 +131,9 @@ write-packing-requires c κs =
     let f = found (answered t) in
     let a = start f .args in
     let n : ℕ = length (a .text .now) in
-    let h = encode-accepted (coding (kind f)) (a .text .now) (length (a .out .now)) _ (wrote t) in
-    let law = lawful (kind f) in
-    let none : Pends (coding (kind f) .width) 0 0 n = record { some = law .some-bits; narrow = law .narrow; few = omega arith; small = pow-pos 0; bounded = h .0 } in
+    let h = encode-accepted (codingOf f) (a .text .now) (length (a .out .now)) _ (wrote t) in
+    let law = lawful (a .fold) (kind f) in
+    let none : Pends (codingOf f .width) 0 0 n = record { some = law .some-bits; narrow = law .narrow; few = omega arith; small = pow-pos 0; bounded = h .0 } in
     subst (λ (b : ℕ). Pends b 0 0 n × (bytesFor (n * b) ≤ length (a .out .now))) (sym (w .bits-per-symbol .ensures)) (none, h .1)
 
 same-length : tie.Need-same-length
@@ -112,14 +147,13 @@ returns-3 c =
     let k = answered t in
     let f = found k in
     let a = start f .args in
-    let table = k .before .before .encoding-array in
-    let codes : List ℕ = looked (table .result) (a .text .now) in
+    let digits : List ℕ = looked (table k .fold-entries .last .1 .0) (a .text .now) in
     let known : (i : ℕ) → _ = λ i. f .before .before .before .before .shared-slice-known .given i .fits in
     let done = p .write-packing .ensures
-    ∙ ap (λ (b : ℕ). front (pack b codes) (a .out .now)) (w .bits-per-symbol .ensures)
-    ∙ ap (λ (l : List ℕ). front l (a .out .now)) (pack-digits (kind f) (table .result) (a .text .now) (table .ensures) known) in (
-      k .asked .ensures ∙ sym (encode-known (a .alphabet) (a .text .now) (a .out .now) (kind f) (named f)),
-      done ∙ encode-wrote (a .alphabet) (a .text .now) (a .out .now) (kind f) (named f) _ (wrote t),
+    ∙ ap (λ (b : ℕ). front (pack b digits) (a .out .now)) (w .bits-per-symbol .ensures)
+    ∙ ap (λ (l : List ℕ). front l (a .out .now)) (pack-digits (a .fold) (kind f) _ (a .text .now) (codes (table k)) known) in (
+      k .asked .ensures ∙ sym (encode-known (a .alphabet) (a .fold) (a .text .now) (a .out .now) (kind f) (named f)),
+      done ∙ encode-wrote (a .alphabet) (a .fold) (a .text .now) (a .out .now) (kind f) (named f) _ (wrote t),
     )
 
 pub encode-sequence-spec : {M : Type 1} → statement M
@@ -131,6 +165,9 @@ encode-sequence-spec =
     enum-told
     returns
     encoding-array-requires
+    has-effect-requires
+    slice-aggregate-fold-entries
+    fold-entries-requires
     asked-requires
     enum-told-2
     enum-told-3

@@ -22,7 +22,7 @@ module _ (e : tie.After-encode-sequence) where
   text = start .args .text .now
 
   abbrev out : List ℕ
-  out = e .encode-sequence .last .1 .1 .0
+  out = e .encode-sequence .last .1 .1 .1 .0
 
   fits : packedBytes (e .encode-sequence .result) ≤ length out
   fits =

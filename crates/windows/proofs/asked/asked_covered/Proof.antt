@@ -1,5 +1,5 @@
 use mathlib.Core.Path.{_≡_, ap, _∙_}
-use mathlib.Core.Bool.{true}
+use mathlib.Core.Bool.{true, false}
 use Prim.Native.Nat.{_*_, _≤_, _^_}
 use native.Mathlib.Omega.{arith}
 use borrow.Author.Needs.{needs}
@@ -31,7 +31,7 @@ width : (c : tie.After-bits-per-symbol) → c .bits-per-symbol .result ≡ numbe
 width c = c .bits-per-symbol .ensures ∙ ap (λ (k : AlphabetType). coding k .width) (c .before .kind-of .ensures)
 
 narrow : (c : tie.After-bits-per-symbol) → c .bits-per-symbol .result ≤ 8
-narrow c = omega (arith, width c, lawful (kindOf (start c .args .alphabet)) .narrow)
+narrow c = omega (arith, width c, lawful false (kindOf (start c .args .alphabet)) .narrow)
 
 end-fits : (c : tie.After-bits-per-symbol) → start c .args .end * c .bits-per-symbol .result ≤ 2 ^ 63
 end-fits c = bit-fits (placed-near (window c)) (narrow c)

@@ -6,17 +6,19 @@ use borrow.Author.Tests.{not-true, not-false}
 use borrow.Author.Needs.{needs}
 use Rattle.alphabet.specs.declared.guesser.AlphabetGuesser.{AlphabetGuesser}
 use Rattle.alphabet.specs.declared.guesser.GuesserUpdated.the-variants.{Next}
+use Rattle.alphabet.specs.Symbols.{folded}
 use Rattle.alphabet.specs.Guess.{masked, soundGuesser, guesserUpdateAt}
 use Rattle.alphabet.specs.Answers.{guesserUpdatedReply, guesserUpdateTold}
+use Rattle.alphabet.proofs.Folding.{folded-bytes}
 use Rattle.alphabet.proofs.Masks.{masked-ascii}
 use Rattle.alphabet.proofs.Calls.{sound-range, update-sound, update-unsound, update-whole}
 use Rattle.alphabet.proofs.guesser.AlphabetGuesser.update.Statement.{statement}
 use Rattle.alphabet.proofs.guesser.AlphabetGuesser.update.Tie as tie
 
 -- the answer of a sound state
-update-next : (g : AlphabetGuesser) (text : List ℕ) (m : ℕ) → soundGuesser g ≡ true → m ≡ masked (g .acc) text
-    → (Next (record { acc = m }) ≡ guesserUpdateAt g text) × (guesserUpdatedReply (Next (record { acc = m })) ≡ guesserUpdateTold g text)
-update-next g text m e q = update-whole _ g text (ap (λ (x : ℕ). Next (record { acc = x })) q ∙ sym (update-sound g text e))
+update-next : (g : AlphabetGuesser) (text : List ℕ) (m : ℕ) → soundGuesser g ≡ true → m ≡ masked (g .acc) (folded (g .fold) text)
+    → (Next (record { acc = m; fold = g .fold }) ≡ guesserUpdateAt g text) × (guesserUpdatedReply (Next (record { acc = m; fold = g .fold })) ≡ guesserUpdateTold g text)
+update-next g text m e q = update-whole _ g text (ap (λ (x : ℕ). Next (record { acc = x; fold = g .fold })) q ∙ sym (update-sound g text e))
 
 -- past the question the state is sound
 sound : (c : tie.Else1) → soundGuesser (c .before .before .before .args .self) ≡ true
@@ -35,7 +37,8 @@ returns-2 c =
     let k = c .before .before .before in
     let g = k .before .args .self in
     let text = k .before .args .sequence .now in
-    let same : g .acc ≡ masked (g .acc) text = rw (c .if2 .taken) (sym (masked-ascii text (λ i. k .shared-slice-known .given i .fits))) in
+    let bytes = folded-bytes (g .fold) text (λ i. k .shared-slice-known .given i .fits) in
+    let same : g .acc ≡ masked (g .acc) (folded (g .fold) text) = rw (c .if2 .taken) (sym (masked-ascii (folded (g .fold) text) bytes)) in
     update-next g text (g .acc) (sound (c .before)) same
 
 scan-requires : tie.Need-scan-requires

@@ -32,7 +32,7 @@ product-here : (w : tie.After-bits-per-symbol) → length (start (sure w) .args 
 product-here w =
     let a = start (sure w) .args in
     product-le (length (a .piece .now)) (w .bits-per-symbol .result) (omega (arith, near w .if2 .left))
-    (subst (λ (b : ℕ). b ≤ 8) (sym (w .bits-per-symbol .ensures)) (lawful (a .self .alphabet) .narrow))
+    (subst (λ (b : ℕ). b ≤ 8) (sym (w .bits-per-symbol .ensures)) (lawful (a .self .fold) (a .self .alphabet) .narrow))
 
 is-sound-requires : tie.Need-is-sound-requires
 is-sound-requires c κs = search needs

@@ -16,10 +16,14 @@ enum-known-refusal c = search needs
 
 returns : tie.Need-returns
 unfolding freshEncoder
-returns c = start-known (c .before .before .before .before .args .alphabet) _ (sym (c .before .before .before .kind-of-number .ensures .0) ∙ c .before .kind .given .1)
+returns c =
+    let a = c .before .before .before .before .args in
+    start-known (a .alphabet) (a .fold) _ (sym (c .before .before .before .kind-of-number .ensures .0) ∙ c .before .kind .given .1)
 
 returns-2 : tie.Need-returns-2
-returns-2 c = start-refused (c .before .before .before .before .args .alphabet) _ (sym (c .before .before .before .kind-of-number .ensures .0) ∙ c .before .refusal .given .1)
+returns-2 c =
+    let a = c .before .before .before .before .args in
+    start-refused (a .alphabet) (a .fold) _ (sym (c .before .before .before .kind-of-number .ensures .0) ∙ c .before .refusal .given .1)
 
 pub new-spec : {M : Type 1} → statement M
 new-spec =

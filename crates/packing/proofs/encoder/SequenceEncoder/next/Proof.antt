@@ -66,9 +66,10 @@ returns c =
     let n : ℕ = length (a .piece .now) in
     let e = w .bits-per-symbol .ensures in
     let left = l .left-over in
+    let bytes : (i : ℕ) → _ = λ i. w .before .shared-slice-known .given i .fits in
     let pending = left .ensures
     ∙ ap (λ (b : ℕ). leftOver b (a .self .bits) (a .self .pending) (looked (a .table .now) (a .piece .now))) e
-    ∙ left-digits (a .self .alphabet) (a .table .now) (a .piece .now) (s .pre .0) (λ i. w .before .shared-slice-known .given i .fits) (a .self .bits) (a .self .pending) in
+    ∙ left-digits (a .self .fold) (a .self .alphabet) (a .table .now) (a .piece .now) (s .pre .0) bytes (a .self .bits) (a .self .pending) in
     next-state (a .self) (a .piece .now) _ (left .result) (c .first-of .result) (ap (λ (b : ℕ). (a .self .bits + n * b) % 8) e) pending (c .first-of .ensures)
 
 pub next-spec : {M : Type 1} → statement M

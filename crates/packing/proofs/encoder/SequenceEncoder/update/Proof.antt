@@ -2,17 +2,40 @@ use mathlib.Core.Path.{_≡_, sym, ap, _∙_, subst}
 use Prim.Native.Nat.{ℕ}
 use borrow.Author.Needs.{needs}
 use lib.ListN.{length}
+use Rattle.bits.specs.Tables.{tabulate}
+use Rattle.alphabet.proofs.Calls.{codes-folded}
 use Rattle.packing.specs.declared.encoder.Updated.the-variants.{Wrote}
-use Rattle.packing.specs.Encode.{updateAt}
+use Rattle.packing.specs.Encode.{packsBy, updateAt}
 use Rattle.packing.specs.Run.{Ready, ran, looked}
 use Rattle.packing.proofs.Digits.{ran-digits}
 use Rattle.packing.proofs.Ends.{pends, update-accepted, update-kept, update-wrote}
 use Rattle.packing.proofs.encoder.SequenceEncoder.update.Statement.{statement}
 use Rattle.packing.proofs.encoder.SequenceEncoder.update.Tie as tie
 
--- where it is answered, and before that the text as it is known, and the entry
+-- where the table is folded, and before that the question whether it is to be, the alphabet's table, the text as it is known
+abbrev effect : tie.After-fold-entries → tie.After-has-effect
+effect f = f .before .before
+
+abbrev listed : tie.After-fold-entries → tie.After-encoding-array
+listed f = effect f .before
+
+abbrev lent : tie.After-fold-entries → tie.After-shared-slice-known
+lent f = listed f .before .before
+
+-- the table is the state's
+codes : (f : tie.After-fold-entries) → f .fold-entries .last .1 .0 ≡ tabulate 256 (packsBy (lent f .before .args .self) .code)
+codes f =
+    let s = lent f .before .args .self in
+    let e = effect f .has-effect in
+    let l = listed f .encoding-array in
+    codes-folded (s .fold) (e .result) (s .alphabet) (l .result) (l .ensures) (e .ensures) (f .fold-entries .ensures)
+
+-- where it is answered, and before that the folded table, and the entry
+abbrev table : tie.After-asked → tie.After-fold-entries
+table k = k .before .before .before
+
 abbrev known : tie.After-asked → tie.After-shared-slice-known
-known k = k .before .before .before .before
+known k = lent (table k)
 
 abbrev start : tie.After-asked → tie.Start
 start k = known k .before
@@ -35,8 +58,17 @@ width c = c .before .before .before .before
 encoding-array-requires : tie.Need-encoding-array-requires
 encoding-array-requires c κs = search needs
 
+has-effect-requires : tie.Need-has-effect-requires
+has-effect-requires c κs = search needs
+
+slice-aggregate-fold-entries : tie.Need-slice-aggregate-fold-entries
+slice-aggregate-fold-entries c = search needs
+
+fold-entries-requires : tie.Need-fold-entries-requires
+fold-entries-requires c κs = search needs
+
 asked-requires : tie.Need-asked-requires
-asked-requires c κs = search needs
+asked-requires c κs = codes (c .before .before)
 
 enum-told : tie.Need-enum-told
 enum-told c = search needs
@@ -78,10 +110,9 @@ returns-2 c =
     let k = answered (w .before) in
     let a = start k .args in
     let s = a .self in
-    let table = k .before .before .encoding-array in
     let done = p .pack .ensures
-    ∙ ap (λ (b : ℕ). ran b (s .bits) (s .pending) (looked (table .result) (a .piece .now)) (a .out .now)) (w .bits-per-symbol .ensures)
-    ∙ ran-digits (s .alphabet) (table .result) (a .piece .now) (table .ensures) (λ i. known k .shared-slice-known .given i .fits) (s .bits) (s .pending) (a .out .now) in
+    ∙ ap (λ (b : ℕ). ran b (s .bits) (s .pending) (looked (table k .fold-entries .last .1 .0) (a .piece .now)) (a .out .now)) (w .bits-per-symbol .ensures)
+    ∙ ran-digits (s .fold) (s .alphabet) _ (a .piece .now) (codes (table k)) (λ i. known k .shared-slice-known .given i .fits) (s .bits) (s .pending) (a .out .now) in
     (k .asked .ensures, update-wrote s (a .piece .now) (a .out .now) _ _ (wrote (w .before)) (p .pack .last .1 .1 .1 .1 .1 .0) done)
 
 pub update-spec : {M : Type 1} → statement M
@@ -89,6 +120,9 @@ update-spec =
     tie.close
     (tie.spec
     encoding-array-requires
+    has-effect-requires
+    slice-aggregate-fold-entries
+    fold-entries-requires
     asked-requires
     enum-told
     enum-told-2
