@@ -10,11 +10,17 @@
  *     number of bases still to come;
  *   - `next`, where the answer has one, is the state that was handed in;
  *   - fc_guesser_guess, fc_encoder_finalize and fc_stream_end hand no state back, refused or not: it went in by value, and the caller still holds it;
- *   - a start has no state to hand back: it echoes its arguments in `next`, with zeros beside them, so that this state is refused again.
+ *   - a start has no state to hand back: it echoes its arguments in `next` as they came, with zeros beside them, so that this state is refused again.
  *
  * States. They are plain numbers, and every call judges the one that it gets. An `alphabet` above 5 is refused by 8, before all else. A state that no
  * guesser, encoder or stream can be in is unsound, and is refused by 1. `has_bad` is 0 or 1: a state in which it is more is unsound and refused by 1, and so is
- * one with a `pending`, a `pending_bits` or (where `has_bad` is 1) a `bad_byte` above 255.
+ * one with a `pending`, a `pending_bits` or (where `has_bad` is 1) a `bad_byte` above 255, and one with a `fold` above 1.
+ *
+ * Folding. Whoever starts a guesser or an encoder, or guesses or packs a whole text, chooses by `fold`: 0 takes every byte as it is, any other number folds.
+ * With folding a byte 61 to 7A hexadecimal, a to z, has the code and the membership of its uppercase letter in the four packed alphabets, FC_DNA2BIT to
+ * FC_PROTEIN; what was packed so reads back in uppercase. FC_ASCII and FC_UNKNOWN do not fold: every byte is itself there, and the state keeps the choice. The
+ * choice is part of the state, 0 or 1, and no call changes it. A refusal 5 tells the byte as it was received, not its uppercase letter. The reads, the streams and
+ * fc_contains know nothing of folding.
  *
  * Memory. A pointer with a length names that many bytes, which the caller owns and which nothing else may write during the call. Where the length is 0
  * nothing is read or written through the pointer, which may then be any, null too. INPUT AND OUTPUT MEMORY OF ONE CALL MUST NOT OVERLAP: no call can notice
@@ -31,7 +37,7 @@ extern "C" {
 #endif
 
 /* The version of this header's structs. Compare it with fc_abi_version(), which tells the library's, when the program starts. */
-#define FC_ABI_VERSION 1
+#define FC_ABI_VERSION 2
 
 /* The alphabets. */
 enum { FC_DNA2BIT = 0, FC_DNA3BIT = 1, FC_DNA_IUPAC = 2, FC_PROTEIN = 3, FC_ASCII = 4, FC_UNKNOWN = 5 };
@@ -59,13 +65,13 @@ typedef struct { uint64_t refusal, count; } fc_count;
 typedef struct { uint64_t refusal, start, end; } fc_range;
 typedef struct { uint64_t refusal, count, position, byte; } fc_packed;
 
-/* A guesser's state: the mask of the alphabets that hold every byte seen; 16 to 31. */
-typedef struct { uint64_t mask; } fc_guesser;
+/* A guesser's state: the mask of the alphabets that hold every byte seen, 16 to 31; whether it folds, 0 or 1. */
+typedef struct { uint64_t mask, fold; } fc_guesser;
 typedef struct { uint64_t refusal; fc_guesser next; } fc_guessing;
 
 /* An encoder's state: symbols seen; bits that fill no byte yet and their value; whether a byte was no member, 0 or 1, and the first such byte's position over
- * all pieces and its value (ignored where `has_bad` is 0). */
-typedef struct { uint64_t alphabet, seen, pending_bits, pending, has_bad, bad_position, bad_byte; } fc_encoder;
+ * all pieces and its value as received (ignored where `has_bad` is 0); whether it folds, 0 or 1. */
+typedef struct { uint64_t alphabet, seen, pending_bits, pending, has_bad, bad_position, bad_byte, fold; } fc_encoder;
 typedef struct { uint64_t refusal; fc_encoder next; } fc_encoder_started;
 typedef struct { uint64_t refusal, count; fc_encoder next; } fc_updated;
 
@@ -85,27 +91,28 @@ uint64_t fc_abi_version(void);
 /* The bits per symbol. Refuses by 8. */
 fc_number fc_bits_per_symbol(uint64_t alphabet);
 
-/* 1 where the byte is a symbol of the alphabet, else 0; a number above 255 is none. Refuses by 8. */
+/* 1 where the byte is a symbol of the alphabet, unfolded, else 0; a number above 255 is none. Refuses by 8. */
 fc_number fc_contains(uint64_t alphabet, uint64_t byte);
 
 /* The display name (dna2bit, dna3bit, dnaio, protein, ASCII, Unknown) at the front of `out`, with no zero behind it, and its length, at most 7.
  * Refuses by 8, then by 4. */
 fc_count fc_display_name(uint64_t alphabet, uint8_t *out, size_t room);
 
-/* A guesser that has seen nothing. */
-fc_guesser fc_guesser_new(void);
+/* A guesser that has seen nothing; it folds unless `fold` is 0. */
+fc_guesser fc_guesser_new(uint64_t fold);
 
 /* The state after a text, or after one more piece of it. Refuses by 1. */
 fc_guessing fc_guesser_update(fc_guesser state, const uint8_t *text, size_t len);
 
-/* The number of the first alphabet, in the order of numbers 0 to 4, that holds every byte seen. It hands no state back. Refuses by 1. */
+/* The number of the first alphabet, in the order of numbers 0 to 4, that holds every byte seen, each taken by the state's choice. It hands no state back.
+ * Refuses by 1. */
 fc_number fc_guesser_guess(fc_guesser state);
 
-/* The same for a whole text. Refuses nothing. */
-fc_number fc_guess_alphabet(const uint8_t *text, size_t len);
+/* The same for a whole text, folded unless `fold` is 0. Refuses nothing. */
+fc_number fc_guess_alphabet(uint64_t fold, const uint8_t *text, size_t len);
 
-/* An encoder that has seen nothing. Refuses by 8. */
-fc_encoder_started fc_encoder_new(uint64_t alphabet);
+/* An encoder that has seen nothing; it folds unless `fold` is 0. Refuses by 8. */
+fc_encoder_started fc_encoder_new(uint64_t alphabet, uint64_t fold);
 
 /* Packs a piece behind what pends and writes the bytes that it completes, `count` of them, at the front of `out`: (pending_bits + len * bits per symbol) / 8.
  * A byte that is no member counts as a symbol whose bits are all ones, and is reported by fc_encoder_finalize. Refuses by 8, 1, 2, 4. */
@@ -121,8 +128,9 @@ static inline uint64_t fc_packed_length(uint64_t symbols, uint64_t bits) {
     return bits > 8 ? UINT64_MAX : symbols / 8 * bits + (symbols % 8 * bits + 7) / 8;
 }
 
-/* The whole packing of a text, fc_packed_length(len, bits per symbol) bytes. Refuses by 8, 2, 4, 5; on a refusal nothing is written. */
-fc_packed fc_encode_sequence(uint64_t alphabet, const uint8_t *text, size_t len, uint8_t *out, size_t room);
+/* The whole packing of a text, folded unless `fold` is 0: fc_packed_length(len, bits per symbol) bytes. Refuses by 8, 2, 4, 5; on a refusal nothing is
+ * written. */
+fc_packed fc_encode_sequence(uint64_t alphabet, uint64_t fold, const uint8_t *text, size_t len, uint8_t *out, size_t room);
 
 /* The bytes of a packed file that hold the bases from `start` to `end`, not including `end`; the same formula where start exceeds end. Refuses by 9, 2. */
 fc_range fc_byte_range_for_bases(uint64_t start, uint64_t end, uint64_t bits);

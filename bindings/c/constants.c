@@ -25,7 +25,7 @@ static const struct {
     {FC_DNA2BIT, 2, "dna2bit", "TCAG", "N"},
     {FC_DNA3BIT, 3, "dna3bit", "ACGTNRYU", "S"},
     {FC_DNA_IUPAC, 4, "dnaio", "NACMGRSKTWYUBDHV", "X"},
-    {FC_PROTEIN, 5, "protein", "ACDEFGHIKLMNPQRSTVWY*X-.UBZOJ", "a"},
+    {FC_PROTEIN, 5, "protein", "ACDEFGHIKLMNPQRSTVWY*X-.UBZOJ", "{"},
     {FC_ASCII, 8, "ASCII", "aA\n", ""},
     {FC_UNKNOWN, 8, "Unknown", "aA\n", ""},
 };
@@ -37,10 +37,12 @@ static void hold_alphabets(void) {
         fc_count named = fc_display_name(number, name, sizeof name);
         hold(alphabets[i].name, named.count == strlen(alphabets[i].name) && !memcmp(name, alphabets[i].name, named.count), 1);
         hold("bits", fc_bits_per_symbol(number).value, alphabets[i].bits);
-        fc_packed packed = fc_encode_sequence(number, of(alphabets[i].symbols), strlen(alphabets[i].symbols), out, sizeof out);
-        hold("symbols", packed.refusal, FC_ACCEPTED);
-        packed = fc_encode_sequence(number, of(alphabets[i].stranger), strlen(alphabets[i].stranger), out, sizeof out);
-        hold("a stranger", packed.refusal, *alphabets[i].stranger ? FC_REFUSED_NOT_MEMBER : FC_ACCEPTED);
+        for (uint64_t fold = 0; fold <= 1; fold++) {
+            fc_packed packed = fc_encode_sequence(number, fold, of(alphabets[i].symbols), strlen(alphabets[i].symbols), out, sizeof out);
+            hold("symbols", packed.refusal, FC_ACCEPTED);
+            packed = fc_encode_sequence(number, fold, of(alphabets[i].stranger), strlen(alphabets[i].stranger), out, sizeof out);
+            hold("a stranger", packed.refusal, *alphabets[i].stranger ? FC_REFUSED_NOT_MEMBER : FC_ACCEPTED);
+        }
     }
     hold("beyond the last alphabet", fc_bits_per_symbol(FC_UNKNOWN + 1).refusal, FC_REFUSED_NO_ALPHABET);
 }
@@ -48,13 +50,13 @@ static void hold_alphabets(void) {
 /* Each refusal once, with all that its answer holds. */
 static void hold_refusals(void) {
     uint8_t out[8], packed[1] = {0x9C};
-    fc_guesser guesser = {15};
-    fc_encoder state = fc_encoder_new(FC_DNA2BIT).next;
-    fc_packed text = fc_encode_sequence(FC_DNA2BIT, of("ACNT"), 4, out, sizeof out);
+    fc_guesser guesser = {15, 0};
+    fc_encoder state = fc_encoder_new(FC_DNA2BIT, 0).next;
+    fc_packed text = fc_encode_sequence(FC_DNA2BIT, 0, of("ACNT"), 4, out, sizeof out);
     fc_range range = fc_byte_range_for_bases(0, 1, 9);
     fc_ended ended = fc_stream_end(fc_stream_new(FC_DNA3BIT, 6, 4).next);
 
-    hold("all accepted", fc_encode_sequence(FC_DNA2BIT, of("ACGT"), 4, out, sizeof out).refusal, FC_ACCEPTED);
+    hold("all accepted", fc_encode_sequence(FC_DNA2BIT, 0, of("ACGT"), 4, out, sizeof out).refusal, FC_ACCEPTED);
     hold("has_bad 0", fc_encoder_update(state, of("A"), 1, out, sizeof out).refusal, FC_ACCEPTED);
     state.has_bad = 2;
     hold("has_bad 2, update", fc_encoder_update(state, of("A"), 1, out, sizeof out).refusal, FC_REFUSED_UNSOUND);
@@ -79,6 +81,42 @@ static void hold_refusals(void) {
     hold("end with 9", range.end, 0);
 }
 
+/* What the header says of `fold`: as an argument, in a state, in the answers. */
+static void hold_folding(void) {
+    const uint64_t folding[] = {1, 2, 256, (uint64_t)1 << 32, UINT64_MAX};
+    uint8_t out[8];
+    hold("0, a guesser", fc_guesser_new(0).fold, 0);
+    hold("0, an encoder", fc_encoder_new(FC_DNA2BIT, 0).next.fold, 0);
+    hold("0, acgt", fc_guess_alphabet(0, of("acgt"), 4).value, FC_ASCII);
+    hold("0, acgt in Dna2bit", fc_encode_sequence(FC_DNA2BIT, 0, of("acgt"), 4, out, sizeof out).refusal, FC_REFUSED_NOT_MEMBER);
+    for (size_t i = 0; i < sizeof folding / sizeof *folding; i++) {
+        hold("folding, a guesser", fc_guesser_new(folding[i]).fold, 1);
+        hold("folding, an encoder", fc_encoder_new(FC_DNA2BIT, folding[i]).next.fold, 1);
+        hold("folding, an encoder of Ascii", fc_encoder_new(FC_ASCII, folding[i]).next.fold, 1);
+        hold("folding, acgt", fc_guess_alphabet(folding[i], of("acgt"), 4).value, FC_DNA2BIT);
+        hold("folding, acgt in Dna2bit", fc_encode_sequence(FC_DNA2BIT, folding[i], of("acgt"), 4, out, sizeof out).refusal, FC_ACCEPTED);
+        hold("folding, its byte", out[0], 0x9C);
+        hold("a refused start, its choice", fc_encoder_new(FC_UNKNOWN + 1, folding[i]).next.fold, folding[i]);
+        hold("folding, a in Ascii", fc_encode_sequence(FC_ASCII, folding[i], of("a"), 1, out, sizeof out).refusal, FC_ACCEPTED);
+        hold("folding, a in Ascii, its byte", out[0], 'a');
+    }
+    fc_guesser guesser = {31, 2};
+    hold("fold 2, a guesser", fc_guesser_guess(guesser).refusal, FC_REFUSED_UNSOUND);
+    hold("fold 2, a guesser's update", fc_guesser_update(guesser, of("A"), 1).refusal, FC_REFUSED_UNSOUND);
+    fc_encoder state = fc_encoder_new(FC_DNA2BIT, 1).next;
+    fc_updated step = fc_encoder_update(state, of("acnt"), 4, out, sizeof out);
+    fc_packed last = fc_encoder_finalize(step.next, out, sizeof out);
+    hold("acnt, its choice", step.next.fold, 1);
+    hold("acnt, refusal", last.refusal, FC_REFUSED_NOT_MEMBER);
+    hold("acnt, position", last.position, 2);
+    hold("acnt, the byte as received", last.byte, 'n');
+    state.fold = 2;
+    hold("fold 2, an encoder", fc_encoder_update(state, of("A"), 1, out, sizeof out).refusal, FC_REFUSED_UNSOUND);
+    state.alphabet = FC_UNKNOWN + 1;
+    hold("an alphabet's number before it", fc_encoder_finalize(state, out, sizeof out).refusal, FC_REFUSED_NO_ALPHABET);
+    hold("fc_contains does not fold", fc_contains(FC_DNA2BIT, 'a').value, 0);
+}
+
 static void hold_statuses(void) {
     uint8_t out[4], source[1] = {0x9C};
     fc_stream fresh = fc_stream_new(FC_DNA2BIT, 0, 4).next, unsound = {FC_DNA2BIT, 8, 4, 0, 0};
@@ -94,7 +132,7 @@ static void hold_lengths(void) {
     for (size_t i = 0; i < sizeof alphabets / sizeof *alphabets; i++) {
         memset(text, alphabets[i].symbols[1], sizeof text);
         for (size_t n = 0; n <= sizeof text; n++) {
-            fc_packed packed = fc_encode_sequence(alphabets[i].number, text, n, out, sizeof out);
+            fc_packed packed = fc_encode_sequence(alphabets[i].number, n % 2, text, n, out, sizeof out);
             hold("a packed length", fc_packed_length(n, alphabets[i].bits), packed.count);
         }
     }
@@ -112,6 +150,7 @@ int main(void) {
     hold("the version", fc_abi_version(), FC_ABI_VERSION);
     hold_alphabets();
     hold_refusals();
+    hold_folding();
     hold_statuses();
     hold_lengths();
     printf("%u answers held to the header's constants\n", held);

@@ -1,5 +1,5 @@
 /*
- * Packs a text, fetches a window of it by byte range and covered read, and streams the same window byte by byte.
+ * Packs a text, one with lowercase letters too, fetches a window of it by byte range and covered read, and streams the same window byte by byte.
  *
  *     cc -std=c11 -Iinclude bindings/c/example.c target/staticlib/libfantailclock.a -o example && ./example
  *
@@ -12,11 +12,11 @@
 
 static const char *const status_names[] = {"refused", "Hungry", "Done", "Full"};
 
-/* The packing of a text in the alphabet that is guessed for it; the count of bytes, 0 where it is refused. */
-static size_t pack(uint64_t alphabet, const uint8_t *text, size_t len, uint8_t *out, size_t room) {
+/* The packing of a text in an alphabet, folded or not; the count of bytes, 0 where it is refused. */
+static size_t pack(uint64_t alphabet, uint64_t fold, const uint8_t *text, size_t len, uint8_t *out, size_t room) {
     uint8_t name[8];
     fc_count named = fc_display_name(alphabet, name, sizeof name);
-    fc_packed packed = fc_encode_sequence(alphabet, text, len, out, room);
+    fc_packed packed = fc_encode_sequence(alphabet, fold, text, len, out, room);
     printf("%.*s %.*s:", (int)named.count, (const char *)name, (int)len, (const char *)text);
     if (packed.refusal != 0) {
         printf(" refused %" PRIu64 ", position %" PRIu64 ", byte %02" PRIX64 "\n", packed.refusal, packed.position, packed.byte);
@@ -59,12 +59,16 @@ static void stream(uint64_t alphabet, const uint8_t *file, uint64_t start, uint6
 int main(void) {
     static const uint8_t text[] = {'A', 'C', 'G', 'T', 'N', 'R', 'Y', 'U'};
     static const uint8_t strange[] = {'A', 'C', 'N', 'T'};
+    static const uint8_t masked[] = {'A', 'C', 'g', 't', 'n'};
     uint8_t file[16];
-    uint64_t alphabet = fc_guess_alphabet(text, sizeof text).value;
+    uint64_t alphabet = fc_guess_alphabet(0, text, sizeof text).value;
 
-    pack(0, strange, sizeof strange, file, sizeof file);
-    pack(0, text, 4, file, sizeof file);
-    if (pack(alphabet, text, sizeof text, file, sizeof file) == 0)
+    pack(FC_DNA2BIT, 0, strange, sizeof strange, file, sizeof file);
+    pack(FC_DNA2BIT, 0, text, 4, file, sizeof file);
+    pack(fc_guess_alphabet(0, masked, 4).value, 0, masked, 4, file, sizeof file);
+    pack(fc_guess_alphabet(1, masked, 4).value, 1, masked, 4, file, sizeof file);
+    pack(FC_DNA2BIT, 1, masked, sizeof masked, file, sizeof file);
+    if (pack(alphabet, 0, text, sizeof text, file, sizeof file) == 0)
         return 1;
     fetch(alphabet, file, 2, 6, 0);
     fetch(alphabet, file, 2, 6, 1);

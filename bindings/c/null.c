@@ -14,7 +14,7 @@ typedef struct { const uint8_t *at; size_t len; } lent;
 typedef struct { uint8_t *at; size_t room; } memory;
 
 /* What a call gets besides memory; each takes what it needs. */
-typedef struct { uint64_t alphabet, byte_offset, start, end, skip, seen; } given;
+typedef struct { uint64_t alphabet, byte_offset, start, end, skip, seen, fold; } given;
 
 typedef void call(given g, lent in, memory out, uint64_t *answer);
 
@@ -25,10 +25,10 @@ typedef void call(given g, lent in, memory out, uint64_t *answer);
     } while (0)
 #define CALL(name) static void name(given g, lent in, memory out, uint64_t *answer)
 
-/* States under way, so that bits pend. A stream with more than 7 of them is not sound, and its calls are refused. */
+/* States under way, so that bits pend. A stream with more than 7 of them is not sound, nor is a state that has 2 for its choice, and its calls are refused. */
 static fc_encoder encoder(given g) {
     uint64_t bits = fc_bits_per_symbol(g.alphabet).value;
-    fc_encoder state = {g.alphabet, g.seen, g.seen * bits % 8, 0, 0, 0, 0};
+    fc_encoder state = {g.alphabet, g.seen, g.seen * bits % 8, 0, 0, 0, 0, g.fold};
     return state;
 }
 
@@ -38,16 +38,16 @@ static fc_stream stream(given g) {
 }
 
 static fc_guesser guesser(given g) {
-    fc_guesser state = {31 - g.start};
+    fc_guesser state = {31 - g.start, g.fold};
     return state;
 }
 
 CALL(display_name) { (void)in; TELL(fc_count, fc_display_name(g.alphabet, out.at, out.room)); }
 CALL(guesser_update) { (void)out; TELL(fc_guessing, fc_guesser_update(guesser(g), in.at, in.len)); }
-CALL(guess_alphabet) { (void)g; (void)out; TELL(fc_number, fc_guess_alphabet(in.at, in.len)); }
+CALL(guess_alphabet) { (void)out; TELL(fc_number, fc_guess_alphabet(g.fold, in.at, in.len)); }
 CALL(encoder_update) { TELL(fc_updated, fc_encoder_update(encoder(g), in.at, in.len, out.at, out.room)); }
 CALL(encoder_finalize) { (void)in; TELL(fc_packed, fc_encoder_finalize(encoder(g), out.at, out.room)); }
-CALL(encode_sequence) { TELL(fc_packed, fc_encode_sequence(g.alphabet, in.at, in.len, out.at, out.room)); }
+CALL(encode_sequence) { TELL(fc_packed, fc_encode_sequence(g.alphabet, g.fold, in.at, in.len, out.at, out.room)); }
 CALL(stream_read) { TELL(fc_streamed, fc_stream_read(stream(g), in.at, in.len, out.at, out.room)); }
 CALL(at_offset) {
     TELL(fc_count, fc_decode_substring_from_bytes_at_offset(g.alphabet, in.at, in.len, g.byte_offset, g.start, g.end, out.at, out.room));
@@ -98,7 +98,7 @@ static void same(const char *name, call *made, given g, size_t in_len, size_t ou
 
 /* One call with all lengths of which one at least is 0. */
 static void try_lengths(const char *name, call *made, given g) {
-    static const uint8_t input[INPUT] = "ACGTACGTACGTACGTACGTACGTACGTACGT";
+    static const uint8_t input[INPUT] = "ACGTACGTACGTACGTacgtacgtACGTACGT";
     static uint8_t *const nowhere[] = {NULL, (uint8_t *)1};
     static const size_t lengths[] = {0, 1, 5, INPUT}, rooms[] = {0, 1, 7, ROOM};
     for (size_t i = 0; i < 4; i++)
@@ -110,10 +110,11 @@ static void try_call(const char *name, call *made) {
     const uint64_t windows[][3] = {{0, 0, 0}, {0, 5, 3}, {0, 0, 1}, {0, 0, 4}, {1, 2, 5}, {0, 3, 43}, {0, 1, 1001}, {0, 0, far}, {far, 0, 4}};
     for (uint64_t alphabet = 0; alphabet <= 6; alphabet++)
         for (size_t i = 0; i < sizeof windows / sizeof *windows; i++)
-            for (uint64_t seen = 0; seen < 10; seen++) {
-                given g = {alphabet, windows[i][0], windows[i][1], windows[i][2], seen % 3 * 3, seen};
-                try_lengths(name, made, g);
-            }
+            for (uint64_t seen = 0; seen < 10; seen++)
+                for (uint64_t fold = 0; fold <= 2; fold++) {
+                    given g = {alphabet, windows[i][0], windows[i][1], windows[i][2], seen % 3 * 3, seen, fold};
+                    try_lengths(name, made, g);
+                }
 }
 
 int main(void) {

@@ -2,9 +2,10 @@
  * The calls of include/fantailclock.h for CPython, as fantailclock.py asks them: it has the public names, this file makes the calls. What is here is
  * there a second time by ctypes, for hosts that cannot build this; the tests run over both.
  *
- * A call takes its arguments by position: first all numbers are read (any object with __index__; OverflowError where 64 bits do not hold one), then the
- * memory is lent, input before output. Memory is bytes in one piece (PyObject_GetBuffer, which refuses all else), is read and written where it lies, and is
- * given back before the call returns. A refusal is raised by the callable that `refuse_by` was handed. States are bytes objects.
+ * A call takes its arguments by position: first all numbers are read (any object with __index__; OverflowError where 64 bits do not hold one), and the
+ * choice to fold (any object, a true one folds), then the memory is lent, input before output. Memory is bytes in one piece (PyObject_GetBuffer, which refuses
+ * all else), is read and written where it lies, and is given back before the call returns. A refusal is raised by the callable that `refuse_by` was handed.
+ * States are bytes objects.
  */
 #include <patchlevel.h>
 #if PY_VERSION_HEX >= 0x030B0000
@@ -23,7 +24,8 @@ typedef struct { PyObject *refuse; } module_state;
 /* The numbers of a window; those that a call does not take are 0. */
 typedef struct { uint64_t alphabet, byte_offset, start, end; } window;
 
-/* A call that writes to memory. Its answer has the fields of fc_packed whatever the function; an encoder's state is replaced where it is accepted. */
+/* A call that writes to memory. Its answer has the fields of fc_packed whatever the function; an encoder's state is replaced where it is accepted. Of a whole
+ * text that is packed, alphabet and choice stand in `encoder`. */
 typedef struct call {
     PyObject *module;
     fc_packed (*make)(struct call *, uint8_t *out, size_t room);
@@ -61,6 +63,13 @@ static int number(PyObject *from, uint64_t *to) {
     if (*to != UINT64_MAX || !PyErr_Occurred()) return 1;
     PyErr_SetString(PyExc_OverflowError, "not a number of 64 bits");
     return 0;
+}
+
+/* The choice to fold, as a truth value. */
+static int choice(PyObject *from, uint64_t *to) {
+    int truth = PyObject_IsTrue(from);
+    *to = truth == 1;
+    return truth >= 0;
 }
 
 static PyObject *from_number(uint64_t value) {
@@ -186,20 +195,23 @@ static PyObject *display_name(PyObject *module, PyObject *alphabet) {
     return answer.refusal != 0 ? refused(module, answer.refusal, 0, 0) : PyUnicode_DecodeASCII((char *)name, (Py_ssize_t)answer.count, NULL);
 }
 
-static PyObject *guess_alphabet(PyObject *module, PyObject *text) {
+static PyObject *guess_alphabet(PyObject *module, arguments given, Py_ssize_t count) {
+    uint64_t fold;
     Py_buffer lent;
     (void)module;
-    if (PyObject_GetBuffer(text, &lent, PyBUF_SIMPLE) < 0) return NULL;
+    if (!counted(count, 2) || !choice(given[0], &fold) || PyObject_GetBuffer(given[1], &lent, PyBUF_SIMPLE) < 0) return NULL;
     PyThreadState *thread = lent.len > FREELY ? PyEval_SaveThread() : NULL;
-    fc_number answer = fc_guess_alphabet(lent.buf, (size_t)lent.len);
+    fc_number answer = fc_guess_alphabet(fold, lent.buf, (size_t)lent.len);
     if (thread != NULL) PyEval_RestoreThread(thread);
     PyBuffer_Release(&lent);
     return from_number(answer.value);
 }
 
-static PyObject *guesser_new(PyObject *module, PyObject *nothing) {
-    (void)module, (void)nothing;
-    fc_guesser state = fc_guesser_new();
+static PyObject *guesser_new(PyObject *module, PyObject *fold) {
+    uint64_t f;
+    (void)module;
+    if (!choice(fold, &f)) return NULL;
+    fc_guesser state = fc_guesser_new(f);
     return from_state(&state, sizeof state);
 }
 
@@ -224,27 +236,28 @@ static PyObject *guesser_guess(PyObject *module, PyObject *from) {
 /* Packing */
 
 static fc_packed make_encode(call *c, uint8_t *out, size_t room) {
-    return fc_encode_sequence(c->of.window.alphabet, c->input.buf, (size_t)c->input.len, out, room);
+    return fc_encode_sequence(c->of.encoder.alphabet, c->of.encoder.fold, c->input.buf, (size_t)c->input.len, out, room);
 }
 
 static PyObject *encode(PyObject *module, arguments given, PyObject *out) {
     call c = {.module = module, .make = make_encode};
-    if (!number(given[0], &c.of.window.alphabet) || PyObject_GetBuffer(given[1], &c.input, PyBUF_SIMPLE) < 0) return NULL;
-    return finished(&c, fc_packed_length((uint64_t)c.input.len, bits_of(c.of.window.alphabet)), out);
+    fc_encoder *by = &c.of.encoder;
+    if (!number(given[0], &by->alphabet) || !choice(given[1], &by->fold) || PyObject_GetBuffer(given[2], &c.input, PyBUF_SIMPLE) < 0) return NULL;
+    return finished(&c, fc_packed_length((uint64_t)c.input.len, bits_of(by->alphabet)), out);
 }
 
 static PyObject *encode_sequence(PyObject *module, arguments given, Py_ssize_t count) {
-    return counted(count, 2) ? encode(module, given, NULL) : NULL;
+    return counted(count, 3) ? encode(module, given, NULL) : NULL;
 }
 
 static PyObject *encode_sequence_into(PyObject *module, arguments given, Py_ssize_t count) {
-    return counted(count, 3) ? encode(module, given, given[2]) : NULL;
+    return counted(count, 4) ? encode(module, given, given[3]) : NULL;
 }
 
-static PyObject *encoder_new(PyObject *module, PyObject *alphabet) {
-    uint64_t a;
-    if (!number(alphabet, &a)) return NULL;
-    fc_encoder_started answer = fc_encoder_new(a);
+static PyObject *encoder_new(PyObject *module, arguments given, Py_ssize_t count) {
+    uint64_t alphabet, fold;
+    if (!counted(count, 2) || !number(given[0], &alphabet) || !choice(given[1], &fold)) return NULL;
+    fc_encoder_started answer = fc_encoder_new(alphabet, fold);
     return answer.refusal != 0 ? refused(module, answer.refusal, 0, 0) : from_state(&answer.next, sizeof answer.next);
 }
 
@@ -430,12 +443,12 @@ static PyMethodDef methods[] = {
     ONE(bits_per_symbol, METH_O),
     MANY(contains),
     ONE(display_name, METH_O),
-    ONE(guess_alphabet, METH_O),
-    ONE(guesser_new, METH_NOARGS),
+    MANY(guess_alphabet),
+    ONE(guesser_new, METH_O),
     MANY(guesser_update),
     ONE(guesser_guess, METH_O),
     BOTH(encode_sequence),
-    ONE(encoder_new, METH_O),
+    MANY(encoder_new),
     BOTH(encoder_update),
     ONE(encoder_finalize, METH_O),
     MANY(encoder_finalize_into),

@@ -13,6 +13,15 @@ A call that is refused raises the subclass of `Refused` that has the rules' numb
     >>> fc.decode_covered(fc.Alphabet.Dna3bit, packed[first:end], first, 2, 6)
     b'GTNR'
 
+Soft-masked text: with `fold=True` a guess, a packing or an encoder takes a byte a to z for its uppercase letter in the four
+packed alphabets, Dna2bit to Protein, and what was packed so reads back in uppercase. Ascii and Unknown do not fold. Without
+it every byte is taken as it is. The choice is part of a guesser's and an encoder's state and stays; any true value folds.
+
+    >>> fc.guess_alphabet(b"ACgt"), fc.guess_alphabet(b"ACgt", fold=True)
+    (<Alphabet.Ascii: 4>, <Alphabet.Dna2bit: 0>)
+    >>> fc.encode_sequence(fc.Alphabet.Dna2bit, b"ACgt", fold=True).hex()
+    '9c'
+
 The shared object is made by bindings/python/build; it is found there, beside this file, or where FANTAILCLOCK_SO says.
 Calls go through the extension module that stands beside it, or by ctypes where there is none, which is ten times as slow;
 `WAY` tells which, and FANTAILCLOCK_WAY (`extension` or `ctypes`) asks for one of them. Calls on more than a few thousand
@@ -39,7 +48,7 @@ if TYPE_CHECKING:
 else:
     Buffer = Any  # any object with contiguous bytes; collections.abc has a name for it from 3.12 on
 
-ABI_VERSION = 1
+ABI_VERSION = 2
 
 
 class Refused(Exception):
@@ -77,7 +86,8 @@ class ShortMemory(Refused):
 
 
 class NotMember(Refused):
-    """The text's first byte that is no symbol of the alphabet: its `position`, over all pieces, and the `byte`."""
+    """The text's first byte that is no symbol of the alphabet: its `position`, over all pieces, and the `byte` as it was
+    received, folding or not."""
 
     number = 5
 
@@ -160,9 +170,9 @@ class fc_packed(ctypes.Structure):
 
 
 class fc_guesser(ctypes.Structure):
-    """A guesser's state: the mask of the alphabets that hold every byte seen; 16 to 31."""
+    """A guesser's state: the mask of the alphabets that hold every byte seen, 16 to 31; whether it folds, 0 or 1."""
 
-    _fields_ = _numbers("mask")
+    _fields_ = _numbers("mask", "fold")
 
 
 class fc_guessing(ctypes.Structure):
@@ -172,9 +182,10 @@ class fc_guessing(ctypes.Structure):
 
 
 class fc_encoder(ctypes.Structure):
-    """An encoder's state: symbols seen, bits that fill no byte yet, the first byte that was no member."""
+    """An encoder's state: symbols seen, bits that fill no byte yet, the first byte that was no member, as received; whether
+    it folds, 0 or 1."""
 
-    _fields_ = _numbers("alphabet", "seen", "pending_bits", "pending", "has_bad", "bad_position", "bad_byte")
+    _fields_ = _numbers("alphabet", "seen", "pending_bits", "pending", "has_bad", "bad_position", "bad_byte", "fold")
 
 
 class fc_encoder_started(ctypes.Structure):
@@ -221,14 +232,14 @@ _FUNCTIONS = {
     "fc_bits_per_symbol": (fc_number, _N),
     "fc_contains": (fc_number, 2 * _N),
     "fc_display_name": (fc_count, _N + _MEMORY),
-    "fc_guesser_new": (fc_guesser, []),
+    "fc_guesser_new": (fc_guesser, _N),
     "fc_guesser_update": (fc_guessing, [fc_guesser] + _MEMORY),
     "fc_guesser_guess": (fc_number, [fc_guesser]),
-    "fc_guess_alphabet": (fc_number, _MEMORY),
-    "fc_encoder_new": (fc_encoder_started, _N),
+    "fc_guess_alphabet": (fc_number, _N + _MEMORY),
+    "fc_encoder_new": (fc_encoder_started, 2 * _N),
     "fc_encoder_update": (fc_updated, [fc_encoder] + 2 * _MEMORY),
     "fc_encoder_finalize": (fc_packed, [fc_encoder] + _MEMORY),
-    "fc_encode_sequence": (fc_packed, _N + 2 * _MEMORY),
+    "fc_encode_sequence": (fc_packed, 2 * _N + 2 * _MEMORY),
     "fc_byte_range_for_bases": (fc_range, 3 * _N),
     "fc_decode_substring_from_bytes_at_offset": (fc_count, _N + _MEMORY + 3 * _N + _MEMORY),
     "fc_decode_substring_from_bytes": (fc_count, _N + _MEMORY + 2 * _N + _MEMORY),
@@ -445,13 +456,14 @@ class _Ctypes:
         return _own(lib.fc_display_name, [_number(alphabet)], 8)[1].decode("ascii")
 
     @staticmethod
-    def guess_alphabet(text):
+    def guess_alphabet(fold, text):
+        fold = bool(fold)
         with _Lent(text) as memory:
-            return lib.fc_guess_alphabet(*memory).value
+            return lib.fc_guess_alphabet(fold, *memory).value
 
     @staticmethod
-    def guesser_new():
-        return bytes(lib.fc_guesser_new())
+    def guesser_new(fold):
+        return bytes(lib.fc_guesser_new(bool(fold)))
 
     @staticmethod
     def guesser_update(state, text):
@@ -463,19 +475,19 @@ class _Ctypes:
         return _accepted(lib.fc_guesser_guess(fc_guesser.from_buffer_copy(state))).value
 
     @staticmethod
-    def encode_sequence(alphabet, text):
-        alphabet = _number(alphabet)
+    def encode_sequence(alphabet, fold, text):
+        alphabet, fold = _number(alphabet), bool(fold)
         with _Lent(text) as (address, length):
             room = (length * lib.fc_bits_per_symbol(alphabet).value + 7) // 8
-            return _own(lib.fc_encode_sequence, (alphabet, address, length), room)[1]
+            return _own(lib.fc_encode_sequence, (alphabet, fold, address, length), room)[1]
 
     @staticmethod
-    def encode_sequence_into(alphabet, text, out):
-        return _into(lib.fc_encode_sequence, [_number(alphabet)], text, [], out).count
+    def encode_sequence_into(alphabet, fold, text, out):
+        return _into(lib.fc_encode_sequence, [_number(alphabet), bool(fold)], text, [], out).count
 
     @staticmethod
-    def encoder_new(alphabet):
-        return bytes(_accepted(lib.fc_encoder_new(_number(alphabet))).next)
+    def encoder_new(alphabet, fold):
+        return bytes(_accepted(lib.fc_encoder_new(_number(alphabet), bool(fold))).next)
 
     @staticmethod
     def encoder_update(state, piece):
@@ -576,7 +588,7 @@ class Alphabet(_Named):
         return _calls.bits_per_symbol(self)
 
     def contains(self, byte: SupportsIndex) -> bool:
-        """Whether the byte, a number, is a symbol of the alphabet."""
+        """Whether the byte, a number, is a symbol of the alphabet, as it is: nothing is folded."""
         return _calls.contains(self, byte)
 
     @property
@@ -588,23 +600,27 @@ class Alphabet(_Named):
 _ALPHABETS = tuple(Alphabet)
 
 
-def guess_alphabet(text: Buffer) -> Alphabet:
-    """The first of Dna2bit, Dna3bit, DnaIupac, Protein and Ascii that holds every byte of the text."""
-    return _ALPHABETS[_calls.guess_alphabet(text)]
+def guess_alphabet(text: Buffer, *, fold: bool = False) -> Alphabet:
+    """The first of Dna2bit, Dna3bit, DnaIupac, Protein and Ascii that holds every byte of the text; with `fold` a byte a to z
+    counts as its uppercase letter in the first four."""
+    return _ALPHABETS[_calls.guess_alphabet(fold, text)]
 
 
-def _kept(state, kind):
-    """A state that a host hands in."""
+def _kept(state, kind, fold=False):
+    """A state that a host hands in; it has its own choice to fold."""
     if not isinstance(state, kind):
         raise TypeError(f"a state is an {kind.__name__}, not {type(state).__name__}")
+    if fold:
+        raise TypeError("the choice to fold is the state's own")
     return bytes(state)
 
 
 class Guesser:
-    """The same guess, piece by piece. A state that was kept (an `fc_guesser`) may be handed in."""
+    """The same guess, piece by piece, with `fold` or without for the whole text. A state that was kept (an `fc_guesser`) may
+    be handed in, and has its choice."""
 
-    def __init__(self, state: Optional[fc_guesser] = None) -> None:
-        self._state = _calls.guesser_new() if state is None else _kept(state, fc_guesser)
+    def __init__(self, state: Optional[fc_guesser] = None, *, fold: bool = False) -> None:
+        self._state = _calls.guesser_new(fold) if state is None else _kept(state, fc_guesser, fold)
 
     @property
     def state(self) -> fc_guesser:
@@ -620,26 +636,30 @@ class Guesser:
         return _ALPHABETS[_calls.guesser_guess(self._state)]
 
 
-def encode_sequence_into(alphabet: SupportsIndex, text: Buffer, out: Buffer) -> int:
-    """Packs a text into the front of `out`; the count is (len * bits + 7) // 8."""
-    return _calls.encode_sequence_into(alphabet, text, out)
+def encode_sequence_into(alphabet: SupportsIndex, text: Buffer, out: Buffer, *, fold: bool = False) -> int:
+    """Packs a text into the front of `out`; the count is (len * bits + 7) // 8. With `fold` a byte a to z is packed as its
+    uppercase letter, except in Ascii and Unknown."""
+    return _calls.encode_sequence_into(alphabet, fold, text, out)
 
 
-def encode_sequence(alphabet: SupportsIndex, text: Buffer) -> bytes:
-    """Packs a text."""
-    return _calls.encode_sequence(alphabet, text)
+def encode_sequence(alphabet: SupportsIndex, text: Buffer, *, fold: bool = False) -> bytes:
+    """Packs a text; with `fold` a byte a to z as its uppercase letter, except in Ascii and Unknown."""
+    return _calls.encode_sequence(alphabet, fold, text)
 
 
 class SequenceEncoder:
     """Packs a text that comes in pieces: each `update` gives the bytes that its piece completes, `finalize` the last one
-    where bits pend. A byte that is no member is reported by `finalize`. A refused call leaves the encoder as it was; an
-    accepted `finalize` ends the text, and every call after it is a ValueError. A state that was kept (an `fc_encoder`)
-    may be handed in."""
+    where bits pend. With `fold` a byte a to z of any piece is packed as its uppercase letter, except in Ascii and Unknown. A
+    byte that is no member is reported by `finalize`, as it was received. A refused call leaves the encoder as it was; an
+    accepted `finalize` ends the text, and every call after it is a ValueError. A state that was kept (an `fc_encoder`) may
+    be handed in, and has its choice."""
 
-    def __init__(self, alphabet: Optional[SupportsIndex] = None, state: Optional[fc_encoder] = None) -> None:
+    def __init__(
+        self, alphabet: Optional[SupportsIndex] = None, state: Optional[fc_encoder] = None, *, fold: bool = False
+    ) -> None:
         if (alphabet is None) == (state is None):
             raise TypeError("an encoder starts from an alphabet or from a state")
-        self._state = _calls.encoder_new(alphabet) if state is None else _kept(state, fc_encoder)
+        self._state = _calls.encoder_new(alphabet, fold) if state is None else _kept(state, fc_encoder, fold)
         self._ended = False
 
     @property

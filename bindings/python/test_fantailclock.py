@@ -46,6 +46,30 @@ LISTS = [b"TCAG", b"ACGTNRYU", b"NACMGRSKTWYUBDHV", b"ACDEFGHIKLMNPQRSTVWY*X-.UB
 BITS = [2, 3, 4, 5, 8, 8]
 
 
+CHOICES = False, True  # to fold or not
+
+
+def taken(alphabet, fold, text):
+    """What a text stands for by the choice: uppercase letters in the four packed alphabets, itself in the other two."""
+    return bytes(text).upper() if fold and alphabet < 4 else bytes(text)
+
+
+def soft_masked(chance, text):
+    """A text with runs of it in lowercase; of the six alphabets' symbols only letters change."""
+    masked, at = bytearray(text), 0
+    while at < len(masked):
+        run = chance.randint(1, 40)
+        if chance.random() < 0.5:
+            masked[at : at + run] = masked[at : at + run].lower()
+        at += run
+    return bytes(masked)
+
+
+def guessed(fold, text):
+    """The first alphabet that holds every byte of a text."""
+    return next(alphabet for alphabet in Alphabet if set(taken(alphabet, fold, text)) <= set(LISTS[alphabet]))
+
+
 def packed_len(alphabet, symbols):
     return (symbols * BITS[alphabet] + 7) // 8
 
@@ -103,18 +127,19 @@ def bases(data):
 
 
 class Worked(unittest.TestCase):
-    """Every row of the worked table. Each method answers one call, by every function that serves it."""
+    """Every row of the worked table. Each method answers one call, by every function that serves it; the rows that have the
+    word `folding` hand the choice on, the others are asked with the choice left out and with `fold=False`."""
 
-    def pack(self, alphabet, word):
-        yield written(9, in_hex, lambda out: fc.encode_sequence_into(alphabet, text(word), out))
-        yield told(lambda: in_hex(fc.encode_sequence(alphabet, text(word))))
+    def pack(self, alphabet, word, **choice):
+        yield written(9, in_hex, lambda out: fc.encode_sequence_into(alphabet, text(word), out, **choice))
+        yield told(lambda: in_hex(fc.encode_sequence(alphabet, text(word), **choice)))
 
-    def update(self, alphabet, word):
-        yield written(9, in_hex, lambda out: fc.SequenceEncoder(alphabet).update_into(text(word), out))
-        yield told(lambda: in_hex(fc.SequenceEncoder(alphabet).update(text(word))))
+    def update(self, alphabet, word, **choice):
+        yield written(9, in_hex, lambda out: fc.SequenceEncoder(alphabet, **choice).update_into(text(word), out))
+        yield told(lambda: in_hex(fc.SequenceEncoder(alphabet, **choice).update(text(word))))
 
-    def finalize(self, alphabet, word):
-        encoder = fc.SequenceEncoder(alphabet)
+    def finalize(self, alphabet, word, **choice):
+        encoder = fc.SequenceEncoder(alphabet, **choice)
         encoder.update(text(word))
         yield written(9, in_hex, fc.SequenceEncoder(state=encoder.state).finalize_into)
         yield told(lambda: in_hex(encoder.finalize()))
@@ -142,30 +167,37 @@ class Worked(unittest.TestCase):
     def end(self, alphabet, *words):
         yield told(self.streamed(alphabet, *words).next.end)
 
-    def guess(self, word):
-        guesser = fc.Guesser()
+    def guess(self, word, **choice):
+        guesser = fc.Guesser(**choice)
         for at in range(len(text(word))):
             guesser.update(text(word)[at : at + 1])
         yield guesser.guess().name
-        yield fc.guess_alphabet(text(word)).name
+        yield fc.guess_alphabet(text(word), **choice).name
 
     def range(self, *numbers):
         yield told(lambda: "{} {}".format(*fc.byte_range_for_bases(*map(number, numbers))))
 
-    def answers(self, call, *words):
+    def answers(self, call, *words, **choice):
         if call in ("guess", "range"):
-            return list(getattr(self, call)(*words))
+            return list(getattr(self, call)(*words, **choice))
         named = [alphabet for alphabet in Alphabet if words[0] in ("*", alphabet.name)]
-        return [answer for alphabet in named for answer in getattr(self, call)(alphabet, *words[1:])]
+        return [answer for alphabet in named for answer in getattr(self, call)(alphabet, *words[1:], **choice)]
+
+    def asked(self, call, *words):
+        """The answers of a row's call, by every way to say its choice."""
+        if call == "folding":
+            return self.answers(*words, fold=True)
+        chosen = self.answers(call, *words, fold=False) if call in ("pack", "update", "finalize", "guess") else []
+        return self.answers(call, *words) + chosen
 
     def test_every_row(self):
-        count = 0
+        count, folding = 0, 0
         for line, words, expected in rows("worked.txt"):
-            answers = self.answers(*words)
+            answers = self.asked(*words)
             self.assertTrue(answers, line)
             self.assertEqual(answers, [expected] * len(answers), line)
-            count += 1
-        self.assertEqual(count, 29)
+            count, folding = count + 1, folding + (words[0] == "folding")
+        self.assertEqual((count, folding), (43, 14))
 
     def test_names_numbers_and_bits(self):
         names = ["dna2bit", "dna3bit", "dnaio", "protein", "ASCII", "Unknown"]
@@ -204,19 +236,20 @@ class States(unittest.TestCase):
             return refusal.number, None
 
     def test_guessers(self):
-        for line, state, refusal in self.states("guesser", fc.fc_guesser, 11):
-            for piece, mask in (b"", state.mask), (b"ACGT", state.mask), (b"a", state.mask & 16):
-                guesser = fc.Guesser(state=state)
+        for line, state, refusal in self.states("guesser", fc.fc_guesser, 24):
+            lowercase = state.mask if refusal or state.fold else state.mask & 16
+            for piece, mask in (b"", state.mask), (b"ACGT", state.mask), (b"a", lowercase):
+                guesser, after = fc.Guesser(state=state), fc.fc_guesser(mask, state.fold)
                 self.assertEqual(self.refusal(lambda: guesser.update(piece))[0], refusal, line)
-                self.assertEqual(guesser.state.mask, state.mask if refusal else mask, line)
-            answer = fc.lib.fc_guesser_update(state, ctypes.create_string_buffer(b"a"), 1)
-            self.assertEqual((answer.refusal, answer.next.mask), (refusal, state.mask if refusal else state.mask & 16), line)
+                self.assertEqual(bytes(guesser.state), bytes(after), line)
+                answer = fc.lib.fc_guesser_update(state, ctypes.create_string_buffer(piece), len(piece))
+                self.assertEqual(bytes(answer), bytes(fc.fc_guessing(refusal, after)), line)
             place = (state.mask & -state.mask).bit_length() - 1
             guess = self.refusal(fc.Guesser(state=state).guess)
             self.assertEqual(guess, (refusal, None if refusal else place), line)
 
     def test_encoders(self):
-        for line, state, refusal in self.states("encoder", fc.fc_encoder, 66):
+        for line, state, refusal in self.states("encoder", fc.fc_encoder, 106):
             next_state = fc.fc_encoder.from_buffer_copy(state)
             if not refusal and not state.has_bad:
                 next_state.bad_position = next_state.bad_byte = 0  # ignored, and answered as zeros
@@ -278,6 +311,11 @@ class States(unittest.TestCase):
     def test_refused_starts(self):
         for alphabet in 6, 256, 1 << 32, (1 << 64) - 1:
             self.assertEqual(self.refusal(lambda: fc.SequenceEncoder(alphabet))[0], 8)
+            self.assertEqual(self.refusal(lambda: fc.SequenceEncoder(alphabet, fold=True))[0], 8)
+            for fold in 0, 1, 2, 1 << 63, (1 << 64) - 1:
+                echo = fc.fc_encoder(alphabet, fold=fold)
+                started = fc.lib.fc_encoder_new(alphabet, fold)
+                self.assertEqual(bytes(started), bytes(fc.fc_encoder_started(8, echo)))
             self.assertEqual(self.refusal(lambda: fc.Stream(alphabet, 8, 5))[0], 8)
         for skip in 8, 255, 256, 1 << 32, (1 << 64) - 1:
             self.assertEqual(self.refusal(lambda: fc.Stream(0, skip, 5))[0], 6)
@@ -384,35 +422,34 @@ class BetweenGuardPages(unittest.TestCase):
     def setUp(self):
         self.harness, self.random = Harness(self), random.Random(1)
 
-    def texts(self, alphabet, members):
-        packed = pack(alphabet, members)
-        about = alphabet.name, len(members)
+    def texts(self, alphabet, fold, text):
+        packed = pack(alphabet, taken(alphabet, fold, text))
+        about = alphabet.name, fold, len(text)
         for room in rooms(len(packed)):
-            self.harness.check("fc_encode_sequence", about, members, room, fitting(packed, room),
-                               lambda data, out: fc.encode_sequence_into(alphabet, data, out))
-        if members and len(LISTS[alphabet]) < 256:
-            strange = members[:-1] + b"a"
-            self.harness.check("fc_encode_sequence", about, strange, len(members), 5,
-                               lambda data, out: fc.encode_sequence_into(alphabet, data, out))
-        self.harness.check("fc_guess_alphabet", about, members, 0, b"", lambda data, _: self.guess(fc.guess_alphabet, data))
-        self.harness.check("fc_guesser_update", about, members, 0, b"", lambda data, _: self.guess(self.updated, data))
+            self.harness.check("fc_encode_sequence", about, text, room, fitting(packed, room),
+                               lambda data, out: fc.encode_sequence_into(alphabet, data, out, fold=fold))
+        if text and len(LISTS[alphabet]) < 256:
+            strange = text[:-1] + (b"{" if fold else b"a")
+            self.harness.check("fc_encode_sequence", about, strange, len(text), 5,
+                               lambda data, out: fc.encode_sequence_into(alphabet, data, out, fold=fold))
+        for entry, function in ("fc_guess_alphabet", fc.guess_alphabet), ("fc_guesser_update", self.updated):
+            self.harness.check(entry, about, text, 0, b"", lambda data, _: self.guess(function, fold, data))
 
-    def updated(self, data):
-        guesser = fc.Guesser()
+    def updated(self, data, fold):
+        guesser = fc.Guesser(fold=fold)
         guesser.update(data)
         return guesser.guess()
 
-    def guess(self, function, data):
-        expected = next(alphabet for alphabet in Alphabet if set(bytes(data)) <= set(LISTS[alphabet]))
-        self.assertEqual(function(data), expected)
+    def guess(self, function, fold, data):
+        self.assertEqual(function(data, fold=fold), guessed(fold, data))
         return 0
 
-    def pieces(self, alphabet, members, before):
-        first, piece = members[:before], members[before:]
-        encoder, packed = fc.SequenceEncoder(alphabet), pack(alphabet, members)
+    def pieces(self, alphabet, fold, text, before):
+        first, piece = text[:before], text[before:]
+        encoder, packed = fc.SequenceEncoder(alphabet, fold=fold), pack(alphabet, taken(alphabet, fold, text))
         encoder.update(first)
-        start, end = len(first) * BITS[alphabet] // 8, len(members) * BITS[alphabet] // 8
-        about = alphabet.name, len(members), before
+        start, end = len(first) * BITS[alphabet] // 8, len(text) * BITS[alphabet] // 8
+        about = alphabet.name, fold, len(text), before
         for room in rooms(end - start):
             self.harness.check("fc_encoder_update", about, piece, room, fitting(packed[start:end], room),
                                lambda data, out: fc.SequenceEncoder(state=encoder.state).update_into(data, out))
@@ -455,8 +492,9 @@ class BetweenGuardPages(unittest.TestCase):
         for alphabet in Alphabet:
             for length in [*range(73), 4095, 4096]:
                 members = bytes(self.random.choices(LISTS[alphabet], k=length))
-                self.texts(alphabet, members)
-                self.pieces(alphabet, members, length % 9)
+                for fold, text in (False, members), (True, soft_masked(self.random, members)):
+                    self.texts(alphabet, fold, text)
+                    self.pieces(alphabet, fold, text, length % 9)
         print(f"{self.harness.calls} calls between guard pages")
 
     def test_windows_and_streams(self):
@@ -479,8 +517,8 @@ class BetweenGuardPages(unittest.TestCase):
 
     def test_no_entry_point_is_left_out(self):
         for alphabet in Alphabet.Dna2bit, Alphabet.Dna3bit:
-            self.texts(alphabet, b"ACGT")
-            self.pieces(alphabet, b"ACGT", 1)
+            self.texts(alphabet, True, b"ACgt")
+            self.pieces(alphabet, True, b"ACgt", 1)
             self.window(alphabet, b"\7\7", (0, 2), (0, 4))
             self.stream(alphabet, b"\7\7", (0, 4))
         self.test_names()
@@ -500,8 +538,8 @@ class BetweenGuardPages(unittest.TestCase):
             "read before": lambda: ctypes.string_at(guarded.page - 1, 1),
             "write behind": lambda: ctypes.memset(guarded.page + PAGE, 0, 1),
             "write to the input": lambda: ctypes.memset(source, 0, 1),
-            "a text too long": lambda: fc.lib.fc_encode_sequence(4, source, 9, guarded.page, PAGE),
-            "memory too long": lambda: fc.lib.fc_encode_sequence(4, nine, 9, out, 9),
+            "a text too long": lambda: fc.lib.fc_encode_sequence(4, 1, source, 9, guarded.page, PAGE),
+            "memory too long": lambda: fc.lib.fc_encode_sequence(4, 1, nine, 9, out, 9),
         }
         for what, trespass in trespasses.items():
             self.assertEqual(self.child(trespass), signal.SIGSEGV, what)

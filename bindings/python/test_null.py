@@ -2,6 +2,7 @@
 0, for its input, for its output and for both, and answers what it answers for an empty slice at a valid address."""
 
 import ctypes
+import itertools
 import pathlib
 import re
 import unittest
@@ -39,26 +40,27 @@ class Null(unittest.TestCase):
     def test_texts(self):
         for entry in "fc_guess_alphabet", "fc_guesser_update":
             self.entries.add(entry)
-        for address in addresses():
-            answer = lib.fc_guess_alphabet(address, 0)
+        for address, fold in itertools.product(addresses(), (0, 1)):
+            answer = lib.fc_guess_alphabet(fold, address, 0)
             self.assertEqual((answer.refusal, answer.value), (0, Alphabet.Dna2bit))
-            answer = lib.fc_guesser_update(fc.fc_guesser(20), address, 0)
-            self.assertEqual((answer.refusal, answer.next.mask), (0, 20))
+            answer = lib.fc_guesser_update(fc.fc_guesser(20, fold), address, 0)
+            self.assertEqual((answer.refusal, answer.next.mask, answer.next.fold), (0, 20, fold))
 
     def test_names(self):
         for alphabet in Alphabet:
             self.same("fc_display_name", 4, 0, first=[alphabet], source=None)
 
     def test_packing(self):
-        for alphabet in Alphabet:
-            state = lib.fc_encoder_new(alphabet).next
-            self.same("fc_encode_sequence", 0, 0, 0, 0, first=[alphabet])
-            self.same("fc_encode_sequence", 0, 0, 0, 0, first=[alphabet], room=9)
-            self.same("fc_encode_sequence", 4, 0, 0, 0, first=[alphabet], source=b"A")
+        for alphabet, fold in itertools.product(Alphabet, (0, 1)):
+            state = lib.fc_encoder_new(alphabet, fold).next
+            self.same("fc_encode_sequence", 0, 0, 0, 0, first=[alphabet, fold])
+            self.same("fc_encode_sequence", 0, 0, 0, 0, first=[alphabet, fold], room=9)
+            self.same("fc_encode_sequence", 4, 0, 0, 0, first=[alphabet, fold], source=b"A")
             self.same("fc_encoder_update", 0, 0, first=[state])
             self.assertEqual(bytes(self.last.next), bytes(state))
             self.same("fc_encoder_update", 0, 0, first=[state], room=9)
             self.same("fc_encoder_update", 4, 0, first=[state], source=b"ACGT")
+            self.assertEqual(bytes(self.last.next), bytes(state))
             self.same("fc_encoder_finalize", 0, 0, 0, 0, first=[state], source=None)
             if alphabet.bits_per_symbol < 8:
                 pending = lib.fc_encoder_update(state, b"A", 1, None, 0).next

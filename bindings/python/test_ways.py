@@ -34,6 +34,13 @@ class Index:
         return self.value
 
 
+class Undecided:
+    """What is neither true nor false."""
+
+    def __bool__(self):
+        raise ZeroDivisionError
+
+
 class Numbers(unittest.TestCase):
     def kinds(self):
         yield int
@@ -197,7 +204,7 @@ class Kept(unittest.TestCase):
 
     def calls(self):
         number, source, out = Index(1 << 40), bytearray(b"ACGTACGT" * 700), bytearray(9000)
-        state = fc._calls.encoder_new(0)
+        state = fc._calls.encoder_new(0, True)
         for name, given in (
             ("decode_covered", (1, source, 0, 2, 6)),
             ("decode_covered", (1, source, 0, 2, 12_000)),
@@ -209,11 +216,18 @@ class Kept(unittest.TestCase):
             ("decode_covered_into", (1, source, 0, 2, 6, source)),
             ("decode_covered_into", (1, source, 0, 2, 6, b"")),
             ("decode_covered_into", (1, source, 0, 2, 9009, out)),
-            ("encode_sequence", (0, source)),
-            ("encode_sequence", (0, b"ACNT")),
-            ("encode_sequence", (number, source)),
-            ("guess_alphabet", (source,)),
-            ("guesser_update", (fc._calls.guesser_new(), source)),
+            ("encode_sequence", (0, False, source)),
+            ("encode_sequence", (0, True, source)),
+            ("encode_sequence", (0, True, b"ACNT")),
+            ("encode_sequence", (number, [], source)),
+            ("encode_sequence", (0, Undecided(), source)),
+            ("encoder_new", (0, [0])),
+            ("encoder_new", (0, Undecided())),
+            ("guess_alphabet", ([], source)),
+            ("guess_alphabet", (Undecided(), source)),
+            ("guesser_new", ([],)),
+            ("guesser_new", (Undecided(),)),
+            ("guesser_update", (fc._calls.guesser_new(True), source)),
             ("encoder_update", (state, source)),
             ("encoder_update_into", (state, source, out)),
             ("encoder_update_into", (state, source, source)),
@@ -237,7 +251,7 @@ class Kept(unittest.TestCase):
         for _ in range(times):
             try:
                 call(*given)
-            except (fc.Refused, ValueError, TypeError, BufferError, OverflowError):
+            except (fc.Refused, ValueError, TypeError, BufferError, OverflowError, ZeroDivisionError):
                 pass
 
     def test_no_reference_is_kept_or_lost(self):
@@ -256,10 +270,11 @@ class Alike(unittest.TestCase):
     """The same calls by both ways, with arguments of every kind: the same answer, the same memory, the same exception."""
 
     NUMBERS = [0, 1, 2, 3, 4, 5, 6, 7, 8, 9, 100, 5000, 1 << 20, 1 << 60, (1 << 60) + 1, (1 << 64) - 1, 1 << 64, -1, Index(3), True, 1.5, None]
+    TRUTHS = [False, True, 0, 1, 2, -1, 1 << 64, None, "", "no", 0.0, Index(0), Undecided()]
     SHAPES = {
-        "bits_per_symbol": "n", "contains": "nn", "display_name": "n", "guess_alphabet": "m", "guesser_new": "",
-        "guesser_update": "gm", "guesser_guess": "g", "encode_sequence": "nm", "encode_sequence_into": "nmo",
-        "encoder_new": "n", "encoder_update": "em", "encoder_update_into": "emo", "encoder_finalize": "e",
+        "bits_per_symbol": "n", "contains": "nn", "display_name": "n", "guess_alphabet": "bm", "guesser_new": "b",
+        "guesser_update": "gm", "guesser_guess": "g", "encode_sequence": "nbm", "encode_sequence_into": "nbmo",
+        "encoder_new": "nb", "encoder_update": "em", "encoder_update_into": "emo", "encoder_finalize": "e",
         "encoder_finalize_into": "eo", "byte_range_for_bases": "nnn", "stream_new": "nnn", "stream_read": "smn",
         "stream_read_into": "smo", "stream_end": "s", "decode_substring_from_bytes_at_offset": "nmnnn",
         "decode_substring_from_bytes": "nmnn", "decode_string_from_bytes": "nmn", "decode_covered": "nmnnn",
@@ -274,6 +289,9 @@ class Alike(unittest.TestCase):
         if kind == "n":
             value = chance.choice(self.NUMBERS[:11] * 3 + self.NUMBERS)
             return lambda: value
+        if kind == "b":
+            value = chance.choice(self.TRUTHS)
+            return lambda: value
         if kind == "m":
             text = bytes(chance.choices(b"ACGTNacgt\x05\x39\x77\x80", k=chance.choice((0, 1, 3, 8, 100, 9000))))
             maker = chance.choice((bytes, bytes, bytearray, memoryview, lambda data: memoryview(data)[::2], lambda _: "ACGT"))
@@ -287,14 +305,14 @@ class Alike(unittest.TestCase):
 
     def state(self, chance, kind):
         """A state, sound or forged."""
-        small = [chance.randint(0, 9) for _ in range(7)]
+        small, fold = [chance.randint(0, 9) for _ in range(7)], chance.choice((0, 0, 1, 1, 2, 1 << 63))
         if chance.random() < 0.2:
             small[chance.randint(0, 6)] = chance.choice((1 << 60, (1 << 64) - 1, 255))
         if kind == "g":
-            return fc.fc_guesser(small[0] + 12)
+            return fc.fc_guesser(small[0] + 12, fold)
         if kind == "s":
             return fc.fc_stream(small[0], small[1], small[2] * 7, 0, 0) if small[6] > 2 else fc.fc_stream(*small[:5])
-        return fc.fc_encoder(*([small[0], small[1] * 8] + [0] * 5 if small[6] > 2 else small))
+        return fc.fc_encoder(*([small[0], small[1] * 8] + [0] * 5 if small[6] > 2 else small), fold)
 
     def told(self, calls, name, made):
         given = [make() for make in made]
@@ -302,7 +320,7 @@ class Alike(unittest.TestCase):
             answer = getattr(calls, name)(*given)
         except fc.Refused as refusal:
             answer = str(refusal)
-        except (TypeError, ValueError, BufferError, OverflowError) as error:
+        except (TypeError, ValueError, BufferError, OverflowError, ZeroDivisionError) as error:
             answer = type(error)
         return answer, [bytes(each) for each in given if isinstance(each, (bytearray, memoryview))]
 
@@ -317,7 +335,7 @@ class Alike(unittest.TestCase):
                 one, other = self.told(fc._calls, name, made), self.told(fc._Ctypes, name, made)
                 self.assertEqual(one, other, (name, [make() for make in made]))
                 kinds.add(one[0] if isinstance(one[0], (type, str)) else type(one[0]))
-        self.assertTrue({TypeError, BufferError, OverflowError, bytes, int, tuple} <= kinds, kinds)
+        self.assertTrue({TypeError, BufferError, OverflowError, ZeroDivisionError, bytes, int, tuple} <= kinds, kinds)
 
     @unittest.skipUnless(fc.WAY == "extension", "the extension's own questions")
     def test_arguments_of_the_extension(self):

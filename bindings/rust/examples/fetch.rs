@@ -7,7 +7,7 @@
 //! The file is made, read and removed. The last line printed has the times and the peak memory; a wrong base, a byte too
 //! few or more than 8 MiB of memory end the program with an error.
 
-use fantailclock::{byte_range_for_bases, decode_covered_into, Alphabet, SequenceEncoder, StreamingDecoder};
+use fantailclock::{byte_range_for_bases, decode_covered_into, Alphabet, Folding, SequenceEncoder, StreamingDecoder};
 use std::fs::{self, File};
 use std::io::{BufReader, Read, Seek, SeekFrom, Write};
 use std::os::unix::fs::FileExt;
@@ -49,7 +49,7 @@ impl Sequence {
 
     /// Packs it into a file, a piece at a time.
     fn pack(&self, file: &mut File) -> Answer<()> {
-        let mut encoder = SequenceEncoder::new(self.alphabet);
+        let mut encoder = SequenceEncoder::new(self.alphabet, Folding::Off);
         let (mut piece, mut packed) = (vec![0; PIECE], vec![0; PIECE + 1]);
         let mut at = 0;
         while at < self.bases {

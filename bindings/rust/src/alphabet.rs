@@ -1,4 +1,4 @@
-//! The six alphabets, and the guess of a text's alphabet.
+//! The six alphabets, the choice to fold, and the guess of a text's alphabet.
 
 use crate::error::accepted;
 use crate::{raw, Error, Result};
@@ -56,7 +56,7 @@ impl Alphabet {
         known(unsafe { raw::fc_bits_per_symbol(self.number()) })
     }
 
-    /// Whether the byte is a symbol of the alphabet.
+    /// Whether the byte is a symbol of the alphabet, as it is: nothing is folded.
     pub fn contains(self, byte: u8) -> bool {
         // SAFETY: only numbers are passed.
         known(unsafe { raw::fc_contains(self.number(), u64::from(byte)) }) == 1
@@ -88,13 +88,62 @@ impl fmt::Display for Alphabet {
     }
 }
 
+/// Whether lowercase letters are folded on the way in: who guesses or packs chooses, once for a text.
+///
+/// With folding a byte a to z has the code and the membership of its uppercase letter in the four packed alphabets, so
+/// that soft-masked text is guessed and packed as the bases that it spells. What was packed reads back in uppercase: the
+/// mask is not kept. [`Alphabet::Ascii`] and [`Alphabet::Unknown`] do not fold, and reads know nothing of the choice. An
+/// [`Error::NotMember`] has the byte as it was received.
+///
+/// ```
+/// use fantailclock::{decode_covered, encode_sequence, guess_alphabet, Alphabet, Error, Folding};
+///
+/// let text = b"ACgt";
+/// assert_eq!(guess_alphabet(Folding::Off, text), Alphabet::Ascii);
+/// let alphabet = guess_alphabet(Folding::On, text);
+/// assert_eq!(alphabet, Alphabet::Dna2bit);
+/// let packed = encode_sequence(alphabet, Folding::On, text)?;
+/// assert_eq!(decode_covered(alphabet, &packed, 0, 0, 4)?, b"ACGT");
+///
+/// let refused = encode_sequence(alphabet, Folding::On, b"acnt");
+/// assert_eq!(refused, Err(Error::NotMember { position: 2, byte: b'n' }));
+/// # Ok::<(), Error>(())
+/// ```
+#[derive(Clone, Copy, Debug, Default, PartialEq, Eq, Hash)]
+#[repr(u64)]
+pub enum Folding {
+    /// Every byte is taken as it is.
+    #[default]
+    Off = 0,
+    /// Lowercase letters are taken for their uppercase ones.
+    On = 1,
+}
+
+impl Folding {
+    /// The number that names the choice to the library.
+    pub fn number(self) -> u64 {
+        self as u64
+    }
+}
+
+/// `true` folds.
+impl From<bool> for Folding {
+    fn from(folds: bool) -> Folding {
+        if folds {
+            Folding::On
+        } else {
+            Folding::Off
+        }
+    }
+}
+
 /// The guess of a text's alphabet, piece by piece: the first of Dna2bit, Dna3bit, DnaIupac, Protein and Ascii that holds
 /// every byte seen.
 ///
 /// ```
-/// use fantailclock::{Alphabet, Guesser};
+/// use fantailclock::{Alphabet, Folding, Guesser};
 ///
-/// let mut guesser = Guesser::new();
+/// let mut guesser = Guesser::new(Folding::Off);
 /// guesser.update(b"ACGT")?;
 /// assert_eq!(guesser.guess()?, Alphabet::Dna2bit);
 /// guesser.update(b"U")?;
@@ -107,11 +156,10 @@ pub struct Guesser {
 }
 
 impl Guesser {
-    /// A guesser that has seen nothing.
-    #[allow(clippy::new_without_default)] // as in the library, `new` is the one way to start
-    pub fn new() -> Guesser {
-        // SAFETY: nothing is passed.
-        Guesser { state: unsafe { raw::fc_guesser_new() } }
+    /// A guesser that has seen nothing. The choice is part of its state and stays as it is.
+    pub fn new(folding: Folding) -> Guesser {
+        // SAFETY: only a number is passed.
+        Guesser { state: unsafe { raw::fc_guesser_new(folding.number()) } }
     }
 
     /// A guesser that goes on from a state that was kept; a state that is not sound is refused by the calls.
@@ -135,7 +183,7 @@ impl Guesser {
 
     /// The guess for what was seen; Dna2bit for no bytes. Refuses an unsound state, which `new` never leaves.
     pub fn guess(&self) -> Result<Alphabet> {
-        // SAFETY: only a number is passed.
+        // SAFETY: only numbers are passed.
         let answer = unsafe { raw::fc_guesser_guess(self.state) };
         accepted(answer.refusal, 0, 0)?;
         Alphabet::try_from(answer.value)
@@ -145,13 +193,14 @@ impl Guesser {
 /// The guess for a whole text.
 ///
 /// ```
-/// use fantailclock::{guess_alphabet, Alphabet};
+/// use fantailclock::{guess_alphabet, Alphabet, Folding};
 ///
-/// assert_eq!(guess_alphabet(b"ACGTS"), Alphabet::DnaIupac);
-/// assert_eq!(guess_alphabet(b"acgt"), Alphabet::Ascii);
+/// assert_eq!(guess_alphabet(Folding::Off, b"ACGTS"), Alphabet::DnaIupac);
+/// assert_eq!(guess_alphabet(Folding::Off, b"acgt"), Alphabet::Ascii);
+/// assert_eq!(guess_alphabet(Folding::On, b"acgt"), Alphabet::Dna2bit);
 /// ```
-pub fn guess_alphabet(text: &[u8]) -> Alphabet {
+pub fn guess_alphabet(folding: Folding, text: &[u8]) -> Alphabet {
     // SAFETY: the text is lent with its length.
-    let answer = unsafe { raw::fc_guess_alphabet(text.as_ptr(), text.len()) };
+    let answer = unsafe { raw::fc_guess_alphabet(folding.number(), text.as_ptr(), text.len()) };
     Alphabet::try_from(known(answer)).expect("a guess is one of the six")
 }

@@ -18,7 +18,7 @@ pub enum Error {
     NotMember {
         /// Its position in the text, over all pieces.
         position: u64,
-        /// The byte itself.
+        /// The byte as it was received, folding or not.
         byte: u8,
     },
     /// 6: a skip of more than 7 bits.

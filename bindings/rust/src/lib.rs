@@ -1,6 +1,7 @@
 //! Fantailclock: packed alphabets and their coders, a safe layer over the C ABI of the proved library.
 //!
 //! - [`Alphabet`], [`guess_alphabet`] and [`Guesser`]: the six alphabets and the guess of a text's.
+//! - [`Folding`]: whether who guesses or packs takes lowercase letters for uppercase ones.
 //! - [`encode_sequence`] and [`SequenceEncoder`]: packing, whole or in pieces.
 //! - [`byte_range_for_bases`] and [`decode_covered`]: the bytes to fetch for a window, and its bases.
 //! - [`StreamingDecoder`] and [`Stream`]: a window from bytes as they come.
@@ -13,19 +14,19 @@
 //! checker shuts it out, and only a caller of [`raw`] must see to it:
 //!
 //! ```compile_fail,E0502
-//! use fantailclock::{encode_sequence_into, Alphabet};
+//! use fantailclock::{encode_sequence_into, Alphabet, Folding};
 //!
 //! let mut memory = *b"ACGTACGT";
-//! encode_sequence_into(Alphabet::Dna2bit, &memory[..5], &mut memory[4..])?;
+//! encode_sequence_into(Alphabet::Dna2bit, Folding::Off, &memory[..5], &mut memory[4..])?;
 //! # Ok::<(), fantailclock::Error>(())
 //! ```
 //!
 //! ```
-//! use fantailclock::{byte_range_for_bases, decode_covered, encode_sequence, guess_alphabet};
+//! use fantailclock::{byte_range_for_bases, decode_covered, encode_sequence, guess_alphabet, Folding};
 //!
 //! let text = b"ACGTNRYU";
-//! let alphabet = guess_alphabet(text);
-//! let packed = encode_sequence(alphabet, text)?;
+//! let alphabet = guess_alphabet(Folding::Off, text);
+//! let packed = encode_sequence(alphabet, Folding::Off, text)?;
 //! let range = byte_range_for_bases(2, 6, alphabet.bits_per_symbol())?;
 //! let fetched = &packed[range.start as usize..range.end as usize];
 //! assert_eq!(decode_covered(alphabet, fetched, range.start, 2, 6)?, b"GTNR");
@@ -42,14 +43,14 @@ pub mod raw;
 mod streaming;
 mod windows;
 
-pub use alphabet::{guess_alphabet, Alphabet, Guesser};
+pub use alphabet::{guess_alphabet, Alphabet, Folding, Guesser};
 pub use error::{Error, Result};
 pub use packing::{byte_range_for_bases, encode_sequence, encode_sequence_into, FinalizeError, SequenceEncoder};
 pub use streaming::{Status, Stream, Streamed, StreamingDecoder};
 pub use windows::*;
 
 /// The version of the C ABI's structs that this crate was written for.
-pub const ABI_VERSION: u64 = 1;
+pub const ABI_VERSION: u64 = 2;
 
 /// The version of the C ABI's structs that the linked archive has.
 pub fn abi_version() -> u64 {

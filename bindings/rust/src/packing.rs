@@ -2,7 +2,7 @@
 
 use crate::error::accepted;
 use crate::memory::owned;
-use crate::{raw, Alphabet, Error, Result};
+use crate::{raw, Alphabet, Error, Folding, Result};
 use std::fmt;
 use std::ops::Range;
 
@@ -15,39 +15,40 @@ fn packed(answer: raw::Packed) -> Result<usize> {
 /// Packs a text into the front of `out` and answers the byte count, `(len * bits + 7) / 8`.
 ///
 /// Refuses a text above 2^60 bytes, memory that is too short, then a byte that is no member; nothing is written then.
-pub fn encode_sequence_into(alphabet: Alphabet, text: &[u8], out: &mut [u8]) -> Result<usize> {
-    let (number, room) = (alphabet.number(), out.len());
+pub fn encode_sequence_into(alphabet: Alphabet, folding: Folding, text: &[u8], out: &mut [u8]) -> Result<usize> {
+    let (number, fold, room) = (alphabet.number(), folding.number(), out.len());
     // SAFETY: both memories are lent with their lengths, and `out` is borrowed alone.
-    packed(unsafe { raw::fc_encode_sequence(number, text.as_ptr(), text.len(), out.as_mut_ptr(), room) })
+    packed(unsafe { raw::fc_encode_sequence(number, fold, text.as_ptr(), text.len(), out.as_mut_ptr(), room) })
 }
 
 /// Packs a text.
 ///
 /// ```
-/// use fantailclock::{encode_sequence, Alphabet, Error};
+/// use fantailclock::{encode_sequence, Alphabet, Error, Folding};
 ///
-/// assert_eq!(encode_sequence(Alphabet::Dna2bit, b"ACGT")?, [0x9C]);
-/// let refused = encode_sequence(Alphabet::Dna2bit, b"ACNT");
+/// assert_eq!(encode_sequence(Alphabet::Dna2bit, Folding::Off, b"ACGT")?, [0x9C]);
+/// assert_eq!(encode_sequence(Alphabet::Dna2bit, Folding::On, b"ACgt")?, [0x9C]);
+/// let refused = encode_sequence(Alphabet::Dna2bit, Folding::Off, b"ACNT");
 /// assert_eq!(refused, Err(Error::NotMember { position: 2, byte: b'N' }));
 /// # Ok::<(), Error>(())
 /// ```
-pub fn encode_sequence(alphabet: Alphabet, text: &[u8]) -> Result<Vec<u8>> {
+pub fn encode_sequence(alphabet: Alphabet, folding: Folding, text: &[u8]) -> Result<Vec<u8>> {
     let bits = text.len() as u128 * u128::from(alphabet.bits_per_symbol());
-    owned((bits + 7) / 8, |out| encode_sequence_into(alphabet, text, out))
+    owned((bits + 7) / 8, |out| encode_sequence_into(alphabet, folding, text, out))
 }
 
 /// Packs a text that comes in pieces.
 ///
 /// Each `update` gives the bytes that its piece completes, `finalize` the last one where bits pend; joined they are what
-/// [`encode_sequence`] gives for the pieces joined. A byte that is no member is reported by `finalize`, with its position
+/// [`encode_sequence`] gives for the pieces joined, by the same choice to fold. A byte that is no member is reported by `finalize`, with its position
 /// over all pieces. A refused `update` leaves the encoder as it was.
 ///
 /// `finalize` ends the text and takes the encoder; a refused one hands it back ([`FinalizeError`]).
 ///
 /// ```
-/// use fantailclock::{Alphabet, SequenceEncoder};
+/// use fantailclock::{Alphabet, Folding, SequenceEncoder};
 ///
-/// let mut encoder = SequenceEncoder::new(Alphabet::Dna3bit);
+/// let mut encoder = SequenceEncoder::new(Alphabet::Dna3bit, Folding::Off);
 /// let mut packed = encoder.update(b"ACGTN")?;
 /// packed.extend(encoder.update(b"RYU")?);
 /// packed.extend(encoder.finalize()?);
@@ -58,9 +59,9 @@ pub fn encode_sequence(alphabet: Alphabet, text: &[u8]) -> Result<Vec<u8>> {
 /// An ended text takes no more pieces, which would give bytes that are no packing:
 ///
 /// ```compile_fail,E0382
-/// use fantailclock::{Alphabet, SequenceEncoder};
+/// use fantailclock::{Alphabet, Folding, SequenceEncoder};
 ///
-/// let mut encoder = SequenceEncoder::new(Alphabet::Dna2bit);
+/// let mut encoder = SequenceEncoder::new(Alphabet::Dna2bit, Folding::Off);
 /// encoder.update(b"ACGTA")?;
 /// encoder.finalize()?;
 /// encoder.update(b"CGT")?;
@@ -72,10 +73,10 @@ pub struct SequenceEncoder {
 }
 
 impl SequenceEncoder {
-    /// An encoder that has seen nothing.
-    pub fn new(alphabet: Alphabet) -> SequenceEncoder {
-        // SAFETY: only a number is passed.
-        let started = unsafe { raw::fc_encoder_new(alphabet.number()) };
+    /// An encoder that has seen nothing. The choice is part of its state and stays as it is.
+    pub fn new(alphabet: Alphabet, folding: Folding) -> SequenceEncoder {
+        // SAFETY: only numbers are passed.
+        let started = unsafe { raw::fc_encoder_new(alphabet.number(), folding.number()) };
         accepted(started.refusal, 0, 0).expect("the alphabet is one of the six");
         SequenceEncoder { state: started.next }
     }
@@ -115,9 +116,9 @@ impl SequenceEncoder {
     /// may go on.
     ///
     /// ```
-    /// use fantailclock::{Alphabet, Error, SequenceEncoder};
+    /// use fantailclock::{Alphabet, Error, Folding, SequenceEncoder};
     ///
-    /// let mut encoder = SequenceEncoder::new(Alphabet::Dna2bit);
+    /// let mut encoder = SequenceEncoder::new(Alphabet::Dna2bit, Folding::Off);
     /// encoder.update(b"ACGTA")?;
     /// let refused = encoder.finalize_into(&mut []).unwrap_err();
     /// assert_eq!(refused.error(), Error::ShortMemory);

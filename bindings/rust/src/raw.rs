@@ -29,14 +29,15 @@ structs! {
     /// `fc_packed`
     Packed { refusal: u64, count: u64, position: u64, byte: u64 }
 
-    /// `fc_guesser`: the mask of the alphabets that hold every byte seen; 16 to 31.
-    Guesser { mask: u64 }
+    /// `fc_guesser`: the mask of the alphabets that hold every byte seen, 16 to 31; whether it folds, 0 or 1.
+    Guesser { mask: u64, fold: u64 }
     /// `fc_guessing`
     Guessing { refusal: u64, next: Guesser }
 
     /// `fc_encoder`: symbols seen; bits that fill no byte yet and their value; whether a byte was no member, and the
-    /// first such byte's position over all pieces and its value (ignored where `has_bad` is 0).
-    Encoder { alphabet: u64, seen: u64, pending_bits: u64, pending: u64, has_bad: u64, bad_position: u64, bad_byte: u64 }
+    /// first such byte's position over all pieces and its value as received (ignored where `has_bad` is 0); whether it
+    /// folds, 0 or 1.
+    Encoder { alphabet: u64, seen: u64, pending_bits: u64, pending: u64, has_bad: u64, bad_position: u64, bad_byte: u64, fold: u64 }
     /// `fc_encoder_started`
     EncoderStarted { refusal: u64, next: Encoder }
     /// `fc_updated`
@@ -64,15 +65,15 @@ extern "C" {
     pub fn fc_bits_per_symbol(alphabet: u64) -> Number;
     pub fn fc_contains(alphabet: u64, byte: u64) -> Number;
     pub fn fc_display_name(alphabet: u64, out: *mut u8, room: usize) -> Count;
-    pub fn fc_guesser_new() -> Guesser;
+    pub fn fc_guesser_new(fold: u64) -> Guesser;
     pub fn fc_guesser_update(state: Guesser, text: *const u8, len: usize) -> Guessing;
     pub fn fc_guesser_guess(state: Guesser) -> Number;
-    pub fn fc_guess_alphabet(text: *const u8, len: usize) -> Number;
+    pub fn fc_guess_alphabet(fold: u64, text: *const u8, len: usize) -> Number;
 
-    pub fn fc_encoder_new(alphabet: u64) -> EncoderStarted;
+    pub fn fc_encoder_new(alphabet: u64, fold: u64) -> EncoderStarted;
     pub fn fc_encoder_update(state: Encoder, piece: *const u8, len: usize, out: *mut u8, room: usize) -> Updated;
     pub fn fc_encoder_finalize(state: Encoder, out: *mut u8, room: usize) -> Packed;
-    pub fn fc_encode_sequence(alphabet: u64, text: *const u8, len: usize, out: *mut u8, room: usize) -> Packed;
+    pub fn fc_encode_sequence(alphabet: u64, fold: u64, text: *const u8, len: usize, out: *mut u8, room: usize) -> Packed;
     pub fn fc_byte_range_for_bases(start: u64, end: u64, bits: u64) -> Range;
 
     pub fn fc_decode_substring_from_bytes_at_offset(alphabet: u64, bytes: *const u8, len: usize, byte_offset: u64, start: u64, end: u64, out: *mut u8, room: usize) -> Count;

@@ -201,10 +201,10 @@ fn vectors_are_what_lent_memory_gets() {
     for alphabet in Alphabet::ALL {
         for len in 0..40 {
             let text = random.members(alphabet, len);
-            let packed = encode_sequence(alphabet, &text).unwrap();
+            let packed = encode_sequence(alphabet, Folding::Off, &text).unwrap();
             assert_eq!(packed, model::pack(alphabet, &text));
             let (cut, end) = (random.below(len as u64 + 1) as usize, len as u64);
-            let mut encoder = SequenceEncoder::new(alphabet);
+            let mut encoder = SequenceEncoder::new(alphabet, Folding::Off);
             let mut joined = encoder.update(&text[..cut]).unwrap();
             joined.extend(encoder.update(&text[cut..]).unwrap());
             joined.extend(encoder.finalize().unwrap());
@@ -233,12 +233,12 @@ fn a_window_that_no_memory_holds_is_refused() {
 #[test]
 fn empty_slices_everywhere() {
     for alphabet in Alphabet::ALL {
-        assert_eq!(guess_alphabet(&[]), Alphabet::Dna2bit);
-        let mut guesser = Guesser::new();
+        assert_eq!(guess_alphabet(Folding::Off, &[]), Alphabet::Dna2bit);
+        let mut guesser = Guesser::new(Folding::Off);
         guesser.update(&[]).unwrap();
-        assert_eq!(guesser, Guesser::new());
-        assert_eq!(encode_sequence_into(alphabet, &[], &mut []), Ok(0));
-        let mut encoder = SequenceEncoder::new(alphabet);
+        assert_eq!(guesser, Guesser::new(Folding::Off));
+        assert_eq!(encode_sequence_into(alphabet, Folding::Off, &[], &mut []), Ok(0));
+        let mut encoder = SequenceEncoder::new(alphabet, Folding::Off);
         assert_eq!(encoder.update_into(&[], &mut []), Ok(0));
         assert_eq!(encoder.finalize_into(&mut []), Ok(0));
         assert_eq!(decode_substring_from_bytes_at_offset_into(alphabet, &[], 0, 0, 0, &mut []), Ok(0));
@@ -256,7 +256,7 @@ fn empty_slices_everywhere() {
 
 #[test]
 fn a_refused_update_leaves_the_encoder_as_it_was() {
-    let mut encoder = SequenceEncoder::new(Alphabet::Dna2bit);
+    let mut encoder = SequenceEncoder::new(Alphabet::Dna2bit, Folding::Off);
     assert_eq!(encoder.update(b"ACN").unwrap(), []);
     let before = encoder.clone();
     assert_eq!(encoder.update_into(b"T", &mut []), Err(Error::ShortMemory));
@@ -270,7 +270,7 @@ fn a_refused_update_leaves_the_encoder_as_it_was() {
 
 #[test]
 fn a_refused_finalize_hands_the_encoder_back() {
-    let mut encoder = SequenceEncoder::new(Alphabet::Dna2bit);
+    let mut encoder = SequenceEncoder::new(Alphabet::Dna2bit, Folding::Off);
     assert_eq!(encoder.update(b"ACGTA").unwrap(), [0x9C]);
     let before = encoder.clone();
     let (error, mut encoder) = encoder.finalize_into(&mut []).unwrap_err().into_parts();
@@ -283,13 +283,13 @@ fn a_refused_finalize_hands_the_encoder_back() {
 #[test]
 fn a_refused_finalize_is_an_error_by_the_question_mark() {
     fn plain(text: &[u8]) -> Result<Vec<u8>> {
-        let mut encoder = SequenceEncoder::new(Alphabet::Dna2bit);
+        let mut encoder = SequenceEncoder::new(Alphabet::Dna2bit, Folding::Off);
         let mut packed = encoder.update(text)?;
         packed.extend(encoder.finalize()?);
         Ok(packed)
     }
     fn boxed(text: &[u8]) -> std::result::Result<usize, Box<dyn std::error::Error>> {
-        let mut encoder = SequenceEncoder::new(Alphabet::Dna2bit);
+        let mut encoder = SequenceEncoder::new(Alphabet::Dna2bit, Folding::Off);
         encoder.update(text)?;
         Ok(encoder.finalize_into(&mut [0])?)
     }

@@ -11,6 +11,7 @@ use support::model;
 use support::random::Random;
 
 const HEADER: &str = include_str!("../../../include/fantailclock.h");
+const CHOICES: [Folding; 2] = [Folding::Off, Folding::On];
 
 /// Lengths around every block and word, and those that fill a page.
 fn lengths() -> impl Iterator<Item = usize> {
@@ -32,68 +33,73 @@ fn fitting(bytes: &[u8], room: usize) -> Result<Vec<u8>> {
     }
 }
 
-fn texts(harness: &mut Harness, alphabet: Alphabet, text: &[u8]) {
-    let packed = model::pack(alphabet, text);
+fn texts(harness: &mut Harness, alphabet: Alphabet, folding: Folding, text: &[u8]) {
+    let packed = model::pack(alphabet, &model::taken(alphabet, folding, text));
     for room in rooms(packed.len()) {
         harness.check(&Case {
             entry: "fc_encode_sequence",
-            about: format!("{alphabet}, {} bytes", text.len()),
+            about: format!("{alphabet}, folding {folding:?}, {} bytes", text.len()),
             input: text,
             room,
             expected: fitting(&packed, room),
-            call: &|text, out| encode_sequence_into(alphabet, text, out),
+            call: &|text, out| encode_sequence_into(alphabet, folding, text, out),
         });
     }
-    let guess = model::guess(text);
+    let guess = model::guess(folding, text);
     for (entry, whole) in [("fc_guess_alphabet", true), ("fc_guesser_update", false)] {
         harness.check(&Case {
             entry,
-            about: format!("{} bytes", text.len()),
+            about: format!("folding {folding:?}, {} bytes", text.len()),
             input: text,
             room: 0,
             expected: Ok(vec![]),
             call: &|text, _| {
-                let mut guesser = Guesser::new();
+                let mut guesser = Guesser::new(folding);
                 guesser.update(text)?;
-                assert_eq!(if whole { guess_alphabet(text) } else { guesser.guess()? }, guess);
+                assert_eq!(if whole { guess_alphabet(folding, text) } else { guesser.guess()? }, guess);
                 Ok(0)
             },
         });
     }
 }
 
-/// A text whose last byte is the first non-member, and one whose first and last are none.
-fn strangers(harness: &mut Harness, alphabet: Alphabet, text: &[u8]) {
-    if text.is_empty() || model::contains(alphabet, b'a') {
-        return;
-    }
-    for position in [text.len() - 1, 0] {
+/// A text whose last byte is the first non-member, and one whose first and last are none. Where the alphabet folds the byte
+/// is a lowercase letter if it can be.
+fn strangers(harness: &mut Harness, alphabet: Alphabet, folding: Folding, text: &[u8]) {
+    let byte = match (alphabet, folding) {
+        (Alphabet::Ascii | Alphabet::Unknown, _) => return,
+        (_, Folding::Off) => b'a',
+        (Alphabet::Protein, Folding::On) => b'{',
+        (_, Folding::On) => b'x',
+    };
+    let ends = if text.is_empty() { vec![] } else { vec![text.len() - 1, 0] };
+    for position in ends {
         let mut text = text.to_vec();
-        *text.last_mut().unwrap() = b'a';
-        text[position] = b'a';
+        *text.last_mut().unwrap() = byte;
+        text[position] = byte;
         harness.check(&Case {
             entry: "fc_encode_sequence",
-            about: format!("{alphabet}, {} bytes, byte {position} is no member", text.len()),
+            about: format!("{alphabet}, folding {folding:?}, {} bytes, byte {position} is no member", text.len()),
             input: &text,
             room: text.len(),
-            expected: Err(Error::NotMember { position: position as u64, byte: b'a' }),
-            call: &|text, out| encode_sequence_into(alphabet, text, out),
+            expected: Err(Error::NotMember { position: position as u64, byte }),
+            call: &|text, out| encode_sequence_into(alphabet, folding, text, out),
         });
     }
 }
 
 /// An update behind so many symbols, and the last byte after it.
-fn pieces(harness: &mut Harness, alphabet: Alphabet, text: &[u8], before: usize) {
+fn pieces(harness: &mut Harness, alphabet: Alphabet, folding: Folding, text: &[u8], before: usize) {
     let width = model::bits(alphabet) as usize;
     let (first, piece) = text.split_at(before.min(text.len()));
-    let mut encoder = SequenceEncoder::new(alphabet);
+    let mut encoder = SequenceEncoder::new(alphabet, folding);
     encoder.update(first).unwrap();
-    let packed = model::pack(alphabet, text);
+    let packed = model::pack(alphabet, &model::taken(alphabet, folding, text));
     let (from, to) = (first.len() * width / 8, text.len() * width / 8);
     for room in rooms(to - from) {
         harness.check(&Case {
             entry: "fc_encoder_update",
-            about: format!("{alphabet}, {} bytes behind {before}", piece.len()),
+            about: format!("{alphabet}, folding {folding:?}, {} bytes behind {before}", piece.len()),
             input: piece,
             room,
             expected: fitting(&packed[from..to], room),
@@ -104,7 +110,7 @@ fn pieces(harness: &mut Harness, alphabet: Alphabet, text: &[u8], before: usize)
     for room in rooms(packed.len() - to) {
         harness.check(&Case {
             entry: "fc_encoder_finalize",
-            about: format!("{alphabet}, {} bytes", text.len()),
+            about: format!("{alphabet}, folding {folding:?}, {} bytes", text.len()),
             input: &[],
             room,
             expected: fitting(&packed[to..], room),
@@ -216,11 +222,14 @@ fn texts_and_pieces() {
     let mut random = Random(1);
     for alphabet in Alphabet::ALL {
         for len in lengths() {
-            let text = random.members(alphabet, len);
-            texts(&mut harness, alphabet, &text);
-            strangers(&mut harness, alphabet, &text);
-            for before in 0..9 {
-                pieces(&mut harness, alphabet, &text, before);
+            let members = random.members(alphabet, len);
+            let masked = random.soft_masked(&members);
+            for (folding, text) in [(Folding::Off, &members), (Folding::On, &masked)] {
+                texts(&mut harness, alphabet, folding, text);
+                strangers(&mut harness, alphabet, folding, text);
+                for before in 0..9 {
+                    pieces(&mut harness, alphabet, folding, text, before);
+                }
             }
         }
     }
@@ -282,8 +291,10 @@ fn names() {
 fn no_entry_point_is_left_out() {
     let mut harness = Harness::new();
     for alphabet in [Alphabet::Dna2bit, Alphabet::Dna3bit] {
-        texts(&mut harness, alphabet, b"ACGT");
-        pieces(&mut harness, alphabet, b"ACGT", 1);
+        for folding in CHOICES {
+            texts(&mut harness, alphabet, folding, b"ACGT");
+            pieces(&mut harness, alphabet, folding, b"ACGT", 1);
+        }
         window(&mut harness, alphabet, &[7; 2], (0, 2), (0, 4));
         stream(&mut harness, alphabet, &[7; 2], (0, 4));
     }
@@ -312,8 +323,8 @@ fn trespass(what: &str) {
             "read before" => _ = front.sub(1).read_volatile(),
             "write behind" => back.add(8).write_volatile(0),
             "write to the input" => (text.as_ptr() as *mut u8).write_volatile(0),
-            "a text too long" => _ = raw::fc_encode_sequence(4, text.as_ptr(), 9, front, 4096),
-            "memory too long" => _ = raw::fc_encode_sequence(4, b"ACGTACGTA".as_ptr(), 9, back, 9),
+            "a text too long" => _ = raw::fc_encode_sequence(4, 0, text.as_ptr(), 9, front, 4096),
+            "memory too long" => _ = raw::fc_encode_sequence(4, 0, b"ACGTACGTA".as_ptr(), 9, back, 9),
             other => panic!("no such trespass: {other}"),
         }
     }

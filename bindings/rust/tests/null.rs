@@ -1,7 +1,7 @@
 //! Null for no bytes, as foreign callers pass it: every entry point that is lent memory takes a null pointer with the length
 //! 0, and answers what it answers for an empty slice.
 
-use fantailclock::{raw, Alphabet};
+use fantailclock::{raw, Alphabet, Folding};
 use std::ptr::{null, null_mut};
 
 const HEADER: &str = include_str!("../../../include/fantailclock.h");
@@ -28,9 +28,11 @@ fn packed(refusal: u64) -> raw::Packed {
 #[test]
 fn texts_and_names() {
     for from in sources() {
-        assert_eq!(unsafe { raw::fc_guess_alphabet(from, 0) }, raw::Number { refusal: 0, value: 0 });
-        let state = raw::Guesser { mask: 20 };
-        assert_eq!(unsafe { raw::fc_guesser_update(state, from, 0) }, raw::Guessing { refusal: 0, next: state });
+        for fold in [0, 1] {
+            assert_eq!(unsafe { raw::fc_guess_alphabet(fold, from, 0) }, raw::Number { refusal: 0, value: 0 });
+            let state = raw::Guesser { mask: 20, fold };
+            assert_eq!(unsafe { raw::fc_guesser_update(state, from, 0) }, raw::Guessing { refusal: 0, next: state });
+        }
     }
     for to in rooms(&mut PATTERN.clone()) {
         for alphabet in 0..6 {
@@ -41,18 +43,23 @@ fn texts_and_names() {
 
 #[test]
 fn packing() {
-    for alphabet in Alphabet::ALL {
-        let (number, mut memory) = (alphabet.number(), PATTERN);
-        let state = unsafe { raw::fc_encoder_new(number) }.next;
+    let choices = [Folding::Off, Folding::On];
+    for (alphabet, folding) in Alphabet::ALL.into_iter().flat_map(|alphabet| choices.map(|folding| (alphabet, folding)))
+    {
+        let (number, fold, mut memory) = (alphabet.number(), folding.number(), PATTERN);
+        let state = unsafe { raw::fc_encoder_new(number, fold) }.next;
         for to in rooms(&mut PATTERN.clone()) {
             for from in sources() {
-                assert_eq!(unsafe { raw::fc_encode_sequence(number, from, 0, to, 0) }, packed(0));
-                assert_eq!(unsafe { raw::fc_encode_sequence(number, from, 0, memory.as_mut_ptr(), 9) }, packed(0));
+                assert_eq!(unsafe { raw::fc_encode_sequence(number, fold, from, 0, to, 0) }, packed(0));
+                assert_eq!(
+                    unsafe { raw::fc_encode_sequence(number, fold, from, 0, memory.as_mut_ptr(), 9) },
+                    packed(0)
+                );
                 let same = raw::Updated { refusal: 0, count: 0, next: state };
                 assert_eq!(unsafe { raw::fc_encoder_update(state, from, 0, to, 0) }, same);
                 assert_eq!(unsafe { raw::fc_encoder_update(state, from, 0, memory.as_mut_ptr(), 9) }, same);
             }
-            assert_eq!(unsafe { raw::fc_encode_sequence(number, b"A".as_ptr(), 1, to, 0) }, packed(4));
+            assert_eq!(unsafe { raw::fc_encode_sequence(number, fold, b"A".as_ptr(), 1, to, 0) }, packed(4));
             assert_eq!(unsafe { raw::fc_encoder_update(state, b"ACGT".as_ptr(), 4, to, 0) }.refusal, 4);
             assert_eq!(unsafe { raw::fc_encoder_finalize(state, to, 0) }, packed(0));
             let pending = unsafe { raw::fc_encoder_update(state, b"A".as_ptr(), 1, memory.as_mut_ptr(), 9) }.next;

@@ -30,19 +30,21 @@ fn states(kind: &str) -> Vec<(Row, Vec<u64>)> {
 #[test]
 fn guessers() {
     let states = states("guesser");
-    assert_eq!(states.len(), 11);
+    assert_eq!(states.len(), 24);
     for (row, numbers) in states {
-        let state = raw::Guesser { mask: numbers[0] };
-        for (text, mask) in [(&b""[..], numbers[0]), (b"ACGT", numbers[0]), (b"a", numbers[0] & 16)] {
+        let (mask, fold) = (numbers[0], numbers[1]);
+        let state = raw::Guesser { mask, fold };
+        let lowercase = if fold == 1 { mask } else { mask & 16 }; // what holds an a too
+        for (text, mask) in [(&b""[..], mask), (b"ACGT", mask), (b"a", lowercase), (b"{", mask & 16)] {
             let mut guesser = Guesser::from_raw(state);
             assert_eq!(guesser.update(text), expected(&row), "{}", row.line);
-            let left = if expected(&row).is_ok() { raw::Guesser { mask } } else { state };
+            let left = if expected(&row).is_ok() { raw::Guesser { mask, fold } } else { state };
             assert_eq!(guesser.to_raw(), left, "{}", row.line);
         }
         let raw_answer = unsafe { raw::fc_guesser_update(state, b"a".as_ptr(), 1) };
-        let next = if row.answer == "0" { raw::Guesser { mask: numbers[0] & 16 } } else { state };
+        let next = if row.answer == "0" { raw::Guesser { mask: lowercase, fold } } else { state };
         assert_eq!(raw_answer, raw::Guessing { refusal: number(row.answer), next }, "{}", row.line);
-        let place = u64::from(numbers[0].trailing_zeros());
+        let place = u64::from(mask.trailing_zeros());
         let guess = expected(&row).map(|()| Alphabet::try_from(place).unwrap());
         assert_eq!(Guesser::from_raw(state).guess(), guess, "{}", row.line);
     }
@@ -57,6 +59,7 @@ fn encoder(numbers: &[u64]) -> raw::Encoder {
         has_bad: numbers[4],
         bad_position: numbers[5],
         bad_byte: numbers[6],
+        fold: numbers[7],
     }
 }
 
@@ -72,7 +75,7 @@ fn answered(state: raw::Encoder) -> raw::Encoder {
 #[test]
 fn encoders() {
     let states = states("encoder");
-    assert_eq!(states.len(), 66);
+    assert_eq!(states.len(), 106);
     for (row, numbers) in states {
         let state = encoder(&numbers);
         let mut out = PATTERN;
@@ -184,9 +187,11 @@ fn ended(row: &Row, state: raw::Stream) {
 #[test]
 fn refused_starts() {
     for number in [6, 256, 1 << 32, u64::MAX] {
-        let started = unsafe { raw::fc_encoder_new(number) };
-        let echoed = raw::Encoder { alphabet: number, ..raw::Encoder::default() };
-        assert_eq!(started, raw::EncoderStarted { refusal: 8, next: echoed });
+        for fold in [0, 1, 2, 256, 1 << 32, u64::MAX] {
+            let started = unsafe { raw::fc_encoder_new(number, fold) };
+            let echoed = raw::Encoder { alphabet: number, fold, ..raw::Encoder::default() };
+            assert_eq!(started, raw::EncoderStarted { refusal: 8, next: echoed });
+        }
         let started = unsafe { raw::fc_stream_new(number, 8, 5) };
         let echoed = raw::Stream { alphabet: number, skip: 8, budget: 5, ..raw::Stream::default() };
         assert_eq!(started, raw::StreamStarted { refusal: 8, next: echoed });

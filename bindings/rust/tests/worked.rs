@@ -24,19 +24,19 @@ fn bases(bases: &[u8]) -> String {
     String::from_utf8(bases.to_vec()).unwrap()
 }
 
-fn pack(alphabet: Alphabet, words: &[&'static str]) -> Vec<String> {
+fn pack(alphabet: Alphabet, folding: Folding, words: &[&'static str]) -> Vec<String> {
     let text = text(words[0]);
-    let lent = written(9, hex, |out| encode_sequence_into(alphabet, text, out));
-    vec![lent, encode_sequence(alphabet, text).map_or_else(refused, |packed| hex(&packed))]
+    let lent = written(9, hex, |out| encode_sequence_into(alphabet, folding, text, out));
+    vec![lent, encode_sequence(alphabet, folding, text).map_or_else(refused, |packed| hex(&packed))]
 }
 
-fn update(alphabet: Alphabet, words: &[&'static str]) -> Vec<String> {
-    let lent = written(9, hex, |out| SequenceEncoder::new(alphabet).update_into(text(words[0]), out));
-    vec![lent, hex(&SequenceEncoder::new(alphabet).update(text(words[0])).unwrap())]
+fn update(alphabet: Alphabet, folding: Folding, words: &[&'static str]) -> Vec<String> {
+    let lent = written(9, hex, |out| SequenceEncoder::new(alphabet, folding).update_into(text(words[0]), out));
+    vec![lent, hex(&SequenceEncoder::new(alphabet, folding).update(text(words[0])).unwrap())]
 }
 
-fn finalize(alphabet: Alphabet, words: &[&'static str]) -> Vec<String> {
-    let mut encoder = SequenceEncoder::new(alphabet);
+fn finalize(alphabet: Alphabet, folding: Folding, words: &[&'static str]) -> Vec<String> {
+    let mut encoder = SequenceEncoder::new(alphabet, folding);
     encoder.update(text(words[0])).unwrap();
     let lent = written(9, hex, |out| Ok(encoder.clone().finalize_into(out)?));
     vec![lent, encoder.finalize().map_or_else(|error| refused(error.error()), |last| hex(&last))]
@@ -91,10 +91,10 @@ fn end(alphabet: Alphabet, words: &[&'static str]) -> Vec<String> {
     vec![streamed(alphabet, words).next.end().map_or_else(refused, |()| String::from("complete"))]
 }
 
-fn guess(words: &[&'static str]) -> Vec<String> {
-    let mut guesser = Guesser::new();
+fn guess(folding: Folding, words: &[&'static str]) -> Vec<String> {
+    let mut guesser = Guesser::new(folding);
     text(words[0]).chunks(1).for_each(|byte| guesser.update(byte).unwrap());
-    vec![format!("{:?}", guess_alphabet(text(words[0]))), format!("{:?}", guesser.guess().unwrap())]
+    vec![format!("{:?}", guess_alphabet(folding, text(words[0]))), format!("{:?}", guesser.guess().unwrap())]
 }
 
 fn range(words: &[&'static str]) -> Vec<String> {
@@ -104,31 +104,34 @@ fn range(words: &[&'static str]) -> Vec<String> {
 }
 
 /// The call for each alphabet that its first word names.
-fn each(words: &[&'static str], call: fn(Alphabet, &[&'static str]) -> Vec<String>) -> Vec<String> {
+fn each(words: &[&'static str], call: impl Fn(Alphabet, &[&'static str]) -> Vec<String>) -> Vec<String> {
     let named = |alphabet: &Alphabet| words[0] == "*" || words[0] == format!("{alphabet:?}");
     Alphabet::ALL.into_iter().filter(named).flat_map(|alphabet| call(alphabet, &words[1..])).collect()
 }
 
+/// The answers of a call that has a choice, `folding` before it or not; of the other calls there is no such row.
 fn answers(words: &[&'static str]) -> Vec<String> {
+    let folding = Folding::from(words[0] == "folding");
+    let words = &words[usize::from(folding == Folding::On)..];
     let arguments = &words[1..];
-    match words[0] {
-        "pack" => each(arguments, pack),
-        "update" => each(arguments, update),
-        "finalize" => each(arguments, finalize),
-        "read" => each(arguments, read),
-        "covered" => each(arguments, covered),
-        "stream" => each(arguments, stream),
-        "end" => each(arguments, end),
-        "guess" => guess(arguments),
-        "range" => range(arguments),
-        other => panic!("no such call: {other}"),
+    match (words[0], folding) {
+        ("pack", _) => each(arguments, |alphabet, words| pack(alphabet, folding, words)),
+        ("update", _) => each(arguments, |alphabet, words| update(alphabet, folding, words)),
+        ("finalize", _) => each(arguments, |alphabet, words| finalize(alphabet, folding, words)),
+        ("guess", _) => guess(folding, arguments),
+        ("read", Folding::Off) => each(arguments, read),
+        ("covered", Folding::Off) => each(arguments, covered),
+        ("stream", Folding::Off) => each(arguments, stream),
+        ("end", Folding::Off) => each(arguments, end),
+        ("range", Folding::Off) => range(arguments),
+        (other, _) => panic!("no such call: {other}, folding {folding:?}"),
     }
 }
 
 /// Asks every row and compares.
 fn check_table() {
     let rows = rows(WORKED);
-    assert_eq!(rows.len(), 29);
+    assert_eq!(rows.len(), 29 + 14);
     for row in rows {
         let answers = answers(&row.words);
         assert!(!answers.is_empty(), "asked of nothing: {}", row.line);
@@ -173,11 +176,20 @@ fn refusals_by_number() {
     let by_number = [
         (byte_range_for_bases(0, (1 << 60) + 1, 2).unwrap_err(), 2, "refused by 2: position above 2^60"),
         (decode_covered(Alphabet::Ascii, &[], 0, 0, 1).unwrap_err(), 3, "refused by 3: bytes of the range not lent"),
-        (encode_sequence_into(Alphabet::Ascii, b"A", &mut []).unwrap_err(), 4, "refused by 4: output memory too short"),
         (
-            encode_sequence(Alphabet::Dna2bit, b"ACNT").unwrap_err(),
+            encode_sequence_into(Alphabet::Ascii, Folding::Off, b"A", &mut []).unwrap_err(),
+            4,
+            "refused by 4: output memory too short",
+        ),
+        (
+            encode_sequence(Alphabet::Dna2bit, Folding::Off, b"ACNT").unwrap_err(),
             5,
             "refused by 5: byte 4E at position 2 is no member",
+        ),
+        (
+            encode_sequence(Alphabet::Dna2bit, Folding::On, b"acnt").unwrap_err(),
+            5,
+            "refused by 5: byte 6E at position 2 is no member",
         ),
         (Stream::new(Alphabet::Ascii, 8, 0).unwrap_err(), 6, "refused by 6: skip above 7"),
         (
@@ -187,7 +199,7 @@ fn refusals_by_number() {
         ),
         (Alphabet::try_from(6).unwrap_err(), 8, "refused by 8: no such alphabet"),
         (byte_range_for_bases(0, 0, 9).unwrap_err(), 9, "refused by 9: more than 8 bits"),
-        (Guesser::from_raw(raw::Guesser { mask: 0 }).guess().unwrap_err(), 1, "refused by 1: unsound state"),
+        (Guesser::from_raw(raw::Guesser { mask: 0, fold: 0 }).guess().unwrap_err(), 1, "refused by 1: unsound state"),
     ];
     for (refusal, number, shown) in by_number {
         assert_eq!((refusal.number(), refusal.to_string()), (number, shown.to_string()));

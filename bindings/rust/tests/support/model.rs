@@ -1,6 +1,6 @@
 //! Packing and reading bit by bit, written from the symbol lists of the rules and not from the library.
 
-use fantailclock::Alphabet;
+use fantailclock::{Alphabet, Folding};
 
 const LISTS: [&[u8]; 4] = [b"TCAG", b"ACGTNRYU", b"NACMGRSKTWYUBDHV", b"ACDEFGHIKLMNPQRSTVWY*X-.UBZOJ"];
 const BITS: [u64; 6] = [2, 3, 4, 5, 8, 8];
@@ -18,8 +18,18 @@ pub fn contains(alphabet: Alphabet, byte: u8) -> bool {
     symbols(alphabet).contains(&byte)
 }
 
-pub fn guess(text: &[u8]) -> Alphabet {
-    Alphabet::ALL.into_iter().find(|&alphabet| text.iter().all(|&byte| contains(alphabet, byte))).unwrap()
+/// What a text stands for by the choice: in a packed alphabet that folds, the text in uppercase.
+pub fn taken(alphabet: Alphabet, folding: Folding, text: &[u8]) -> Vec<u8> {
+    if folding == Folding::On && alphabet < Alphabet::Ascii {
+        text.to_ascii_uppercase()
+    } else {
+        text.to_vec()
+    }
+}
+
+pub fn guess(folding: Folding, text: &[u8]) -> Alphabet {
+    let holds = |&alphabet: &Alphabet| taken(alphabet, folding, text).iter().all(|&byte| contains(alphabet, byte));
+    Alphabet::ALL.into_iter().find(holds).unwrap()
 }
 
 /// The bytes that so many symbols fill, the last one perhaps in part.

@@ -23,6 +23,20 @@ impl Random {
         (0..len).map(|_| self.next() as u8).collect()
     }
 
+    /// A text with runs of its letters in lowercase, as soft masking leaves it.
+    pub fn soft_masked(&mut self, text: &[u8]) -> Vec<u8> {
+        let (mut masked, mut low, longest) = (text.to_vec(), self.below(2) == 1, 1 + self.below(40));
+        let mut at = 0;
+        while at < masked.len() {
+            let end = masked.len().min(at + 1 + self.below(longest) as usize);
+            if low {
+                masked[at..end].make_ascii_lowercase();
+            }
+            (at, low) = (end, !low);
+        }
+        masked
+    }
+
     /// A text of members of one alphabet.
     pub fn members(&mut self, alphabet: Alphabet, len: usize) -> Vec<u8> {
         let list = model::symbols(alphabet);
