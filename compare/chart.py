@@ -60,7 +60,7 @@ def shown(ratio):
     return f"{ratio:.{places}f}"
 
 
-def legend(drawing, title, subtitle, pair):
+def legend(drawing, title, subtitle, pairs):
     drawing.text(10, 24, title, 17, weight="bold")
     drawing.text(10, 41, subtitle, 10)
     x = 10
@@ -70,9 +70,10 @@ def legend(drawing, title, subtitle, pair):
         x += 175
     drawing.line(x - 40, 49, 64, GOAL, 3)
     drawing.text(x - 33, 60, "goal: the bar ends on it or left of it", 10)
-    for at, words in enumerate(pair):
-        drawing.box(x + 190, 50 + 6 * at, 12, 5, COPY[at])
-    drawing.text(x + 207, 60, f"{pair[0]} · {pair[1]} read", 10)
+    for line, words in enumerate(pairs):
+        for at, fill in enumerate(COPY):
+            drawing.box(x + 190, 36 + 14 * line + 6 * at, 12, 5, fill)
+        drawing.text(x + 207, 46 + 14 * line, words, 10)
     drawing.y = 70
 
 
@@ -135,11 +136,11 @@ def group(drawing, scales, words, unit, rows, goals):
     drawing.y = top + group_height(words, unit, rows)
 
 
-def chart(title, subtitle, pair, layers, goals):
-    """The drawing. `pair`: what the two rows of figures are, where they share a row. `layers`: pairs of a layer's name and its groups, each a name with
+def chart(title, subtitle, pairs, layers, goals):
+    """The drawing. `pairs`: what the two rows of figures are, where they share a row. `layers`: pairs of a layer's name and its groups, each a name with
     commas, a unit, and rows of a label, one or two rows of figures and their times by column, a list each."""
     drawing = Drawing()
-    legend(drawing, title, subtitle, pair)
+    legend(drawing, title, subtitle, pairs)
     every = [each for _, groups in layers for *_, rows in groups for _, figures, _ in rows for each in figures]
     scales = {column: Scale(edges, NUMBERS[column], [each[column] for each in every]) for column, edges in PANELS.items()}
     axes(drawing, scales, sum(LAYER + sum(group_height(*each) for each in groups) for _, groups in layers))

@@ -26,12 +26,12 @@ pub struct Shape {
     pub lent: &'static str,
     /// The words of its answer before the next state.
     pub answer: &'static str,
-    /// The words of the next state; it begins with the numbers that went in.
+    /// The words of the next state. A call that gets a state has its words for numbers.
     pub next: &'static str,
 }
 
 macro_rules! entries {
-    ($($entry:ident: $name:literal $layer:ident ($numbers:expr; $lent:literal) -> ($answer:literal; $next:expr),)*) => {
+    ($($entry:ident: $name:literal $layer:ident ($numbers:expr; $lent:literal) -> ($answer:expr; $next:expr),)*) => {
         #[derive(Clone, Copy, PartialEq, Eq, Debug)]
         pub enum Entry { $($entry),* }
 
@@ -48,7 +48,8 @@ macro_rules! entries {
     };
 }
 
-const ENCODER: &str = "alphabet seen pending_bits pending has_bad bad_position bad_byte";
+const GUESSER: &str = "mask fold";
+const ENCODER: &str = "alphabet seen pending_bits pending has_bad bad_position bad_byte fold";
 const STREAM: &str = "alphabet skip budget pending_bits pending";
 const WINDOW: &str = "alphabet byte_offset start end";
 
@@ -57,18 +58,18 @@ entries! {
     BitsPerSymbol: "bits_per_symbol" Alphabet ("alphabet"; "") -> ("refusal value"; ""),
     Contains: "contains" Alphabet ("alphabet byte"; "") -> ("refusal value"; ""),
     DisplayName: "display_name" Alphabet ("alphabet"; "out") -> ("refusal count"; ""),
-    GuesserNew: "guesser_new" Alphabet (""; "") -> ("mask"; ""),
-    GuesserUpdate: "guesser_update" Alphabet ("mask"; "text") -> ("refusal"; "mask"),
-    GuesserGuess: "guesser_guess" Alphabet ("mask"; "") -> ("refusal value"; ""),
-    GuessAlphabet: "guess_alphabet" Alphabet (""; "text") -> ("refusal value"; ""),
-    GuesserList: "(list) guesser" Alphabet (""; "text") -> ("refusal value"; ""),
+    GuesserNew: "guesser_new" Alphabet ("fold"; "") -> (GUESSER; ""),
+    GuesserUpdate: "guesser_update" Alphabet (GUESSER; "text") -> ("refusal"; GUESSER),
+    GuesserGuess: "guesser_guess" Alphabet (GUESSER; "") -> ("refusal value"; ""),
+    GuessAlphabet: "guess_alphabet" Alphabet ("fold"; "text") -> ("refusal value"; ""),
+    GuesserList: "(list) guesser" Alphabet ("fold"; "text") -> ("refusal value"; ""),
 
-    EncoderNew: "encoder_new" Packing ("alphabet"; "") -> ("refusal"; ENCODER),
+    EncoderNew: "encoder_new" Packing ("alphabet fold"; "") -> ("refusal"; ENCODER),
     EncoderUpdate: "encoder_update" Packing (ENCODER; "piece out") -> ("refusal count"; ENCODER),
     EncoderFinalize: "encoder_finalize" Packing (ENCODER; "out") -> ("refusal count position byte"; ""),
-    EncodeSequence: "encode_sequence" Packing ("alphabet"; "text out") -> ("refusal count position byte"; ""),
+    EncodeSequence: "encode_sequence" Packing ("alphabet fold"; "text out") -> ("refusal count position byte"; ""),
     ByteRange: "byte_range_for_bases" Packing ("start end bits"; "") -> ("refusal start end"; ""),
-    EncoderList: "(list) encoder" Packing ("alphabet"; "text") -> ("refusal count position byte"; ""),
+    EncoderList: "(list) encoder" Packing ("alphabet fold"; "text") -> ("refusal count position byte"; ""),
 
     DecodeAtOffset: "decode_substring_from_bytes_at_offset" Windows (WINDOW; "bytes out") -> ("refusal count"; ""),
     DecodeSubstring: "decode_substring_from_bytes" Windows (WINDOW; "bytes out") -> ("refusal count"; ""),
@@ -97,7 +98,7 @@ pub struct Call {
     pub entry: Entry,
     /// The numbers of the shape, then zeros. All window reads have the four of `WINDOW`; one that fixes some of them
     /// has them at what it fixes.
-    pub numbers: [u64; 7],
+    pub numbers: [u64; 8],
     pub text: Vec<u8>,
     pub room: usize,
     pub steps: Vec<Step>,
@@ -105,7 +106,7 @@ pub struct Call {
 
 impl Call {
     pub fn new(entry: Entry, given: &[u64]) -> Call {
-        let mut numbers = [0; 7];
+        let mut numbers = [0; 8];
         numbers[..given.len()].copy_from_slice(given);
         Call { entry, numbers, text: Vec::new(), room: 0, steps: Vec::new() }.settled()
     }
@@ -140,6 +141,16 @@ impl Call {
     /// The alphabet the call is about, if it is about one.
     pub fn alphabet(&self) -> Option<u64> {
         self.entry.shape().numbers.starts_with("alphabet").then_some(self.numbers[0])
+    }
+
+    /// The place among the numbers of the choice to fold, an argument or a state's; none where the call has no choice.
+    pub fn fold_place(&self) -> Option<usize> {
+        self.entry.shape().numbers.split_whitespace().position(|name| name == "fold")
+    }
+
+    /// Whether the call folds, or would if its state were sound.
+    pub fn folds(&self) -> bool {
+        self.fold_place().is_some_and(|place| self.numbers[place] != 0)
     }
 
     /// The pieces that the calls of a list get, one after another; the whole text where the call is no list.

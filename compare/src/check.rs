@@ -21,6 +21,8 @@ pub struct Checker {
     made: u64,
     /// The cases by entry point and column.
     counts: Vec<[u64; 8]>,
+    /// How many cases folded.
+    folding: Vec<u64>,
     /// How many cases the Rust had an answer to.
     with_rust: Vec<u64>,
     differing: Vec<u64>,
@@ -43,6 +45,7 @@ impl Checker {
             seed,
             made: 0,
             counts: vec![[0; 8]; entries],
+            folding: vec![0; entries],
             with_rust: vec![0; entries],
             differing: vec![0; entries],
             trace: false,
@@ -68,6 +71,7 @@ impl Checker {
         let seed = self.seed.wrapping_add(self.made);
         let answers = answers(call, seed, self.fault);
         self.counts[call.entry as usize][column(call, &answers[0].1)] += 1;
+        self.folding[call.entry as usize] += u64::from(call.folds());
         self.with_rust[call.entry as usize] += u64::from(answers.len() > 2);
         if agree(&answers) {
             return Ok(());
@@ -122,7 +126,7 @@ impl Checker {
     pub fn print_table(&self) {
         print!("{:38}", "cases");
         COLUMNS.iter().for_each(|name| print!("{name:>9}"));
-        println!("{:>10}{:>10}{:>8}", "all", "with Rust", "differ");
+        println!("{:>10}{:>9}{:>10}{:>8}", "all", "folding", "with Rust", "differ");
         for &entry in Entry::ALL {
             let row = &self.counts[entry as usize];
             let all: u64 = row.iter().sum();
@@ -130,8 +134,10 @@ impl Checker {
                 continue;
             }
             print!("{:38}", entry.shape().name);
-            row.iter().for_each(|&count| if count > 0 { print!("{count:>9}") } else { print!("{:>9}", "") });
-            println!("{all:>10}{:>10}{:>8}", self.with_rust[entry as usize], self.differing[entry as usize]);
+            let show = |count: u64| if count > 0 { format!("{count:>9}") } else { format!("{:>9}", "") };
+            row.iter().for_each(|&count| print!("{}", show(count)));
+            print!("{all:>10}{}", show(self.folding[entry as usize]));
+            println!("{:>10}{:>8}", self.with_rust[entry as usize], self.differing[entry as usize]);
         }
     }
 }

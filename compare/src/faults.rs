@@ -2,7 +2,7 @@
 //! the comparison would notice. A fault changes what goes in (`call`) or what comes out (`answer`).
 
 use crate::case::{Call, Entry, Layer};
-use crate::model::{self, DONE, FULL, HUNGRY, LIMIT};
+use crate::model::{self, Intake, DONE, FULL, HUNGRY, LIMIT};
 
 macro_rules! faults {
     ($($fault:ident $layer:ident $text:literal,)*) => {
@@ -19,7 +19,7 @@ faults! {
     GuesserStartsAt15 Alphabet "a guesser starts at 15",
     MaskEntryOff Alphabet "one mask entry is off by one bit",
     MaskNarrowed Alphabet "a guesser's mask is narrowed to a byte before it is tested",
-    FirstChunkOnly Alphabet "only the first 4,096 bytes are folded",
+    FirstChunkOnly Alphabet "only the first 4,096 bytes are looked at",
     ChunkEndSkipped Alphabet "the last byte of the first chunk is skipped",
     GuesserReset Alphabet "a refused guesser comes back fresh",
     NameOff Alphabet "one letter of a display name is off",
@@ -28,6 +28,15 @@ faults! {
     ByteNarrowed Alphabet "contains takes byte 321 for A",
     AlphabetNarrowed Alphabet "alphabet 256 is taken for 0",
     BeyondName Alphabet "a byte is written beyond the count of a name",
+    GuessFoldsUnasked Alphabet "a guess folds when told not to",
+    GuessFoldsBases Alphabet "a guess folds a, c, g and t alone",
+    GuessClearsBit Alphabet "a guess folds by clearing bit 5 of every byte",
+    GuessFoldsBrace Alphabet "a folded mask takes 60 to 7B for letters",
+    MaskLosesAscii Alphabet "a folded mask loses Ascii",
+    GuesserForgets Alphabet "a guesser's update forgets the choice",
+    GuesserKeepsNumber Alphabet "a fresh guesser keeps the choice's number as it came",
+    GuessNarrows Alphabet "a guess narrows the choice to a byte",
+    GuesserTakesTwo Alphabet "a guesser's choice of 2 is taken as sound",
 
     AlphabeticalCodes Packing "Dna2bit packs by codes in alphabetical order",
     MaskedBeforeTest Packing "FF is masked to the width before the member test, so N passes as G",
@@ -46,6 +55,19 @@ faults! {
     RefusalWrites Packing "a refused encode_sequence writes",
     RefusalZeroes Packing "a refused update hands back zeros",
     BeyondPacked Packing "a byte is written beyond the count when packing",
+    PacksFoldedUnasked Packing "packing folds when told not to",
+    FoldsAscii Packing "Ascii and Unknown fold",
+    PackingClearsBit Packing "packing folds by clearing bit 5 of every byte",
+    ReportsUppercase Packing "a refusal 5 reports the uppercased byte",
+    ReportsBeyond Packing "a reported byte 60, or 7B to 7F, is folded too",
+    EncoderForgets Packing "an update forgets the choice",
+    UpdateUnchosen Packing "an update keeps the choice and does not fold",
+    SoundUnchosen Packing "finalize asks whether a first non-member is one without the choice",
+    EncoderKeepsNumber Packing "a fresh encoder keeps the choice's number as it came",
+    StartNormalised Packing "a refused start hands back 1 for any choice that folds",
+    PackingNarrows Packing "encode_sequence narrows the choice to a byte",
+    EncoderTakesTwo Packing "an encoder's choice of 2 is taken as sound",
+    ChoiceBeforeAlphabet Packing "a choice above 1 is refused before the alphabet",
 
     AlphabeticalRows Windows "Dna2bit decodes by codes in alphabetical order",
     BlockAtEdge Windows "the 3-bit block engine runs at an edge without all three bytes",
@@ -87,9 +109,9 @@ impl Fault {
             (Fault::ByteNarrowed, Entry::Contains) => numbers[1] &= 0xFF,
             (Fault::AlphabetNarrowed, _) if call.alphabet().is_some() => numbers[0] &= 0xFF,
             (Fault::AlphabeticalCodes, _) if two_bit => swap(text, b"ACGT", b"TCAG"),
-            (Fault::MaskedBeforeTest, _) if two_bit => replace_strangers(0, text, b'G'),
+            (Fault::MaskedBeforeTest, _) if two_bit => replace_strangers(intake(call), text, b'G'),
             (Fault::StrangerAsZeros, Entry::EncoderUpdate) if numbers[0] < 4 => {
-                replace_strangers(numbers[0], text, model::LISTS[numbers[0] as usize][0]);
+                replace_strangers(intake(call), text, model::LISTS[numbers[0] as usize][0]);
             }
             (Fault::PendingTooBig, Entry::EncoderUpdate) if numbers[3].checked_sub(1) == mask(numbers[2]) => {
                 numbers[3] -= 1
@@ -103,9 +125,41 @@ impl Fault {
             (Fault::WindowPastLimit, _) if numbers[3] == LIMIT + 1 && numbers[2] < LIMIT => numbers[3] = LIMIT,
             (Fault::CoverShort, Entry::DecodeCovered) => text.push(0),
             (Fault::BudgetNarrowed, Entry::StreamNew) => numbers[2] &= 0xFFFF_FFFF,
-            _ => {}
+            _ => self.folding(&mut wrong),
         }
         wrong
+    }
+
+    /// What a port whose folding has this fault makes of its input.
+    fn folding(self, call: &mut Call) {
+        let Some(place) = call.fold_place() else { return };
+        let (packs, fold) = (call.alphabet().unwrap_or(0) < 4, call.numbers[place]);
+        let text = &mut call.text;
+        match (self, call.entry) {
+            (Fault::GuessFoldsUnasked, _) if fold == 0 => text.make_ascii_uppercase(),
+            (Fault::PacksFoldedUnasked, _) if fold == 0 && packs => uppercase_members(call.numbers[0], text),
+            (Fault::FoldsAscii, _) if fold != 0 && !packs => text.make_ascii_uppercase(),
+            (Fault::GuessFoldsBases, _) if fold != 0 => {
+                let other = |byte: &&mut u8| byte.is_ascii_lowercase() && !b"acgt".contains(byte);
+                text.iter_mut().filter(other).for_each(|byte| *byte = b'{');
+            }
+            (Fault::GuessClearsBit, _) if fold != 0 => text.iter_mut().for_each(|byte| *byte &= 0xDF),
+            // Of Protein's members those that are no letters.
+            (Fault::PackingClearsBit, _) if fold != 0 && call.numbers[0] == 3 => swap(text, b"*-.", b"\x0a\x0d\x0e"),
+            // A letter whose membership its neighbours 60 and 7B get.
+            (Fault::GuessFoldsBrace, _) if fold != 0 => swap(text, b"`{", b"JZ"),
+            (Fault::GuessNarrows, Entry::GuessAlphabet) => call.numbers[place] &= 0xFF,
+            (Fault::PackingNarrows, Entry::EncodeSequence) => call.numbers[place] &= 0xFF,
+            (Fault::GuesserTakesTwo, Entry::GuesserUpdate | Entry::GuesserGuess)
+            | (Fault::EncoderTakesTwo, Entry::EncoderUpdate | Entry::EncoderFinalize)
+                if fold == 2 =>
+            {
+                call.numbers[place] = 1
+            }
+            (Fault::UpdateUnchosen, Entry::EncoderUpdate) if fold == 1 => call.numbers[place] = 0,
+            (Fault::SoundUnchosen, Entry::EncoderFinalize) if fold == 1 => call.numbers[place] = 0,
+            _ => {}
+        }
     }
 
     /// What a port with this fault makes of its answer to `call`; `before` is what the memory held.
@@ -139,13 +193,19 @@ impl Fault {
                 refuse(4, call, before, words, out);
             }
             (Fault::LowercaseMember, Entry::Contains) if words[0] == 0 && (97..123).contains(&byte) => words[1] = 1,
+            (Fault::MaskLosesAscii, Entry::GuesserUpdate) if words[0] == 0 && call.folds() => {
+                let lowercase = call.text.iter().any(u8::is_ascii_lowercase);
+                words[1] &= if lowercase { 15 } else { 31 };
+            }
+            (Fault::GuesserForgets, Entry::GuesserUpdate) if words[0] == 0 => words[2] = 0,
+            (Fault::GuesserKeepsNumber, Entry::GuesserNew) => words[1] = call.numbers[0],
             _ => {}
         }
     }
 
     fn packing(self, call: &Call, before: &[u8], words: &mut [u64], out: &mut [u8]) {
-        let [alphabet, seen, pending_bits, _, has_bad, ..] = call.numbers;
-        let stranger = model::first_stranger(alphabet, &call.text);
+        let [_, seen, pending_bits, _, has_bad, ..] = call.numbers;
+        let stranger = model::first_stranger(intake(call), &call.text);
         match (self, call.entry, stranger) {
             (Fault::StrangerAsZeros, Entry::EncoderUpdate, Some((place, byte))) if has_bad == 0 && words[0] == 0 => {
                 words[6..9].copy_from_slice(&[1, seen + place, u64::from(byte)]);
@@ -174,6 +234,29 @@ impl Fault {
             (Fault::RefusalWrites, Entry::EncodeSequence, _) if words[0] == 5 && !out.is_empty() => out[0] ^= 0x55,
             (Fault::RefusalZeroes, Entry::EncoderUpdate, _) if words[0] != 0 => words[1..].fill(0),
             (_, Entry::ByteRange, _) => self.byte_range(call, words),
+            _ => self.choosing(call, words),
+        }
+    }
+
+    /// What a port whose folding has this fault makes of an answer of packing.
+    fn choosing(self, call: &Call, words: &mut [u64]) {
+        let [alphabet, second, .., fold] = call.numbers;
+        let mut none = 0;
+        let reported = match call.entry {
+            Entry::EncodeSequence if words[0] == 5 && call.folds() => &mut words[3],
+            Entry::EncoderUpdate if words[0] == 0 && words[6] == 1 && call.folds() => &mut words[8],
+            _ => &mut none,
+        };
+        match (self, *reported) {
+            (Fault::ReportsUppercase, 0x61..=0x7A) | (Fault::ReportsBeyond, 0x60 | 0x7B..=0x7F) => *reported -= 0x20,
+            _ => {}
+        }
+        match (self, call.entry) {
+            (Fault::EncoderForgets, Entry::EncoderUpdate) if words[0] == 0 => words[9] = 0,
+            (Fault::UpdateUnchosen, Entry::EncoderUpdate) => words[9] = fold,
+            (Fault::EncoderKeepsNumber, Entry::EncoderNew) if words[0] == 0 => words[8] = second,
+            (Fault::StartNormalised, Entry::EncoderNew) if words[0] != 0 => words[8] = second.min(1),
+            (Fault::ChoiceBeforeAlphabet, Entry::EncoderUpdate) if alphabet > 5 && fold > 1 => words[0] = 1,
             _ => {}
         }
     }
@@ -247,12 +330,23 @@ fn swap(text: &mut [u8], from: &[u8], to: &[u8]) {
     }
 }
 
-fn replace_strangers(alphabet: u64, text: &mut [u8], symbol: u8) {
+/// How a call takes its bytes in.
+fn intake(call: &Call) -> Intake {
+    Intake { alphabet: call.alphabet().unwrap_or(0), fold: call.folds() }
+}
+
+fn replace_strangers(intake: Intake, text: &mut [u8], symbol: u8) {
     for byte in text {
-        if model::code(alphabet, *byte).is_none() {
+        if intake.code(*byte).is_none() {
             *byte = symbol;
         }
     }
+}
+
+/// Writes the letters in uppercase that are members with folding.
+fn uppercase_members(alphabet: u64, text: &mut [u8]) {
+    let member = |byte: &&mut u8| Intake { alphabet, fold: true }.code(**byte).is_some();
+    text.iter_mut().filter(member).for_each(|byte| byte.make_ascii_uppercase());
 }
 
 /// The largest number of `bits` bits.

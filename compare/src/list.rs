@@ -32,7 +32,8 @@ const HEAD: &str = "\
 # A line: the function without its `fc_`, its numbers, the bytes lent, the output memory before the call, who
 # answered, the numbers of the answer (a state's among them) and the output memory afterwards. Numbers are decimal;
 # bytes stand in hexadecimal behind an x. `rust` answered by gtars-refget's functions, `rules` by the model of
-# document 01's rules alone, for a refusal, a state or a call that the Rust lacks.
+# document 01's rules alone, for a refusal, a state or a call that the Rust lacks. The Rust does not fold: where the
+# call does, it answered of the uppercased text (not so for Ascii and Unknown), and the byte it reports is the one lent.
 ";
 
 fn cases(layer: Layer, check: &mut Checker) -> Go {

@@ -1,6 +1,6 @@
-//! Document 01's questions and answers, written from its sentences and not from the Rust: slow, small, and whole. It
-//! gives every word of every answer, on a refusal too, and the memory afterwards. It is held against the Rust wherever
-//! the Rust has an answer, and decides where the Rust has none.
+//! Document 01's questions and answers, with the choice to fold that document 02 adds (A1), written from their sentences
+//! and not from the Rust: slow, small, and whole. It gives every word of every answer, on a refusal too, and the memory
+//! afterwards. It is held against the Rust wherever the Rust has an answer, and decides where the Rust has none.
 
 use crate::case::{Call, Entry, Memory};
 use crate::tally;
@@ -20,11 +20,34 @@ pub fn width(alphabet: u64) -> u64 {
     WIDTHS[alphabet as usize]
 }
 
-/// The code of a member; a non-member has none.
-pub fn code(alphabet: u64, byte: u8) -> Option<u64> {
-    match LISTS.get(alphabet as usize) {
-        Some(list) => list.iter().position(|&symbol| symbol == byte).map(|place| place as u64),
-        None => Some(u64::from(byte)),
+/// How a byte is taken in: by an alphabet 0 to 5, with folding or without.
+#[derive(Clone, Copy)]
+pub struct Intake {
+    pub alphabet: u64,
+    pub fold: bool,
+}
+
+impl Intake {
+    /// The rule for one byte: with folding a byte 61 to 7A stands for its uppercase letter in the four bit-packed
+    /// alphabets. Ascii and Unknown do not fold.
+    fn stands_for(self, byte: u8) -> u8 {
+        match byte {
+            0x61..=0x7A if self.fold && self.alphabet < 4 => byte - 0x20,
+            _ => byte,
+        }
+    }
+
+    /// The code of a member, which is that of what it stands for; a non-member has none.
+    pub fn code(self, byte: u8) -> Option<u64> {
+        let byte = self.stands_for(byte);
+        match LISTS.get(self.alphabet as usize) {
+            Some(list) => list.iter().position(|&symbol| symbol == byte).map(|place| place as u64),
+            None => Some(u64::from(byte)),
+        }
+    }
+
+    pub fn width(self) -> u64 {
+        width(self.alphabet)
     }
 }
 
@@ -36,9 +59,10 @@ fn symbol(alphabet: u64, code: u64) -> u8 {
     }
 }
 
-/// The mask of a text: bit i is set exactly when alphabet i holds every byte of it.
-pub fn mask(text: &[u8]) -> u64 {
-    (0..5).filter(|&i| text.iter().all(|&byte| code(i, byte).is_some())).map(|i| 1 << i).sum()
+/// The mask of a text: bit i is set exactly when alphabet i holds every byte of it, by the choice.
+pub fn mask(fold: bool, text: &[u8]) -> u64 {
+    let holds = |&alphabet: &u64| text.iter().all(|&byte| Intake { alphabet, fold }.code(byte).is_some());
+    (0..5).filter(holds).map(|i| 1 << i).sum()
 }
 
 /// The lowest `count` bits of a number, most significant first.
@@ -52,14 +76,14 @@ fn number(row: &[u64]) -> u64 {
 }
 
 /// The bits of a text's codes one after another; a non-member counts as a symbol whose bits are all ones.
-fn code_bits(alphabet: u64, text: &[u8]) -> Vec<u64> {
+fn code_bits(intake: Intake, text: &[u8]) -> Vec<u64> {
     let ones = u64::MAX;
-    text.iter().flat_map(|&byte| bits(code(alphabet, byte).unwrap_or(ones), width(alphabet))).collect()
+    text.iter().flat_map(|&byte| bits(intake.code(byte).unwrap_or(ones), intake.width())).collect()
 }
 
 /// A whole text packed: spare low bits of the last byte are zero.
-pub fn packed(alphabet: u64, text: &[u8]) -> Vec<u8> {
-    let mut row = code_bits(alphabet, text);
+pub fn packed(intake: Intake, text: &[u8]) -> Vec<u8> {
+    let mut row = code_bits(intake, text);
     row.resize(row.len().div_ceil(8) * 8, 0);
     row.chunks(8).map(|byte| number(byte) as u8).collect()
 }
@@ -71,8 +95,9 @@ pub fn base(alphabet: u64, i: u64, file: &dyn Fn(u64) -> u8) -> u8 {
     symbol(alphabet, number(&row))
 }
 
-pub fn first_stranger(alphabet: u64, text: &[u8]) -> Option<(u64, u8)> {
-    let place = text.iter().position(|&byte| code(alphabet, byte).is_none())?;
+/// The first non-member: its place, and the byte as received.
+pub fn first_stranger(intake: Intake, text: &[u8]) -> Option<(u64, u8)> {
+    let place = text.iter().position(|&byte| intake.code(byte).is_none())?;
     Some((place as u64, text[place]))
 }
 
@@ -94,8 +119,8 @@ pub fn answer(call: &Call, memory: &mut Memory) -> Vec<u64> {
     }
 }
 
-/// On a refusal the state comes back as it was handed in (a start echoes its arguments) and the rest is zero, but for
-/// the values that belong to the number.
+/// On a refusal the state comes back as it was handed in (a start echoes its arguments as they came) and the rest is
+/// zero, but for the values that belong to the number.
 fn refused(call: &Call, no: &No) -> Vec<u64> {
     let shape = call.entry.shape();
     let mut words = vec![0; shape.answer.split_whitespace().count()];
@@ -104,7 +129,10 @@ fn refused(call: &Call, no: &No) -> Vec<u64> {
         No::Member(position, byte) => words.copy_from_slice(&[5, 0, position, u64::from(byte)]),
         No::Outstanding(bases) => words.copy_from_slice(&[7, bases]),
     }
-    words.extend(&call.numbers[..shape.next.split_whitespace().count()]);
+    match call.entry {
+        Entry::EncoderNew => words.extend(fresh_encoder(call.numbers[0], call.numbers[1])),
+        _ => words.extend(&call.numbers[..shape.next.split_whitespace().count()]),
+    }
     words
 }
 
@@ -120,19 +148,31 @@ pub fn ask(yes: bool, number: u64) -> Result<(), No> {
 fn accepted(call: &Call, memory: &mut Memory) -> Answer {
     let n = call.numbers;
     match call.entry {
-        Entry::AbiVersion => Ok(vec![1]),
+        Entry::AbiVersion => Ok(vec![2]),
         Entry::BitsPerSymbol => ask(n[0] <= 5, 8).map(|()| vec![0, width(n[0])]),
-        Entry::Contains => ask(n[0] <= 5, 8).map(|()| vec![0, u64::from(contains(n[0], n[1]))]),
+        Entry::Contains => {
+            ask(n[0] <= 5, 8)?;
+            Ok(vec![0, u64::from(contains(Intake { alphabet: n[0], fold: false }, n[1]))])
+        }
         Entry::DisplayName => display_name(n[0], memory.lent(0)),
-        Entry::GuesserNew => Ok(vec![31]),
-        Entry::GuesserUpdate => guesser_sound(n[0]).map(|()| vec![0, n[0] & mask(&call.text)]),
-        Entry::GuesserGuess => guesser_sound(n[0]).map(|()| vec![0, u64::from(n[0].trailing_zeros())]),
-        Entry::GuessAlphabet | Entry::GuesserList => Ok(vec![0, u64::from(mask(&call.text).trailing_zeros())]),
+        Entry::GuesserNew => Ok(vec![31, u64::from(chosen(n[0]))]),
+        Entry::GuesserUpdate => {
+            guesser_sound(n[0], n[1])?;
+            Ok(vec![0, n[0] & mask(n[1] == 1, &call.text), n[1]])
+        }
+        Entry::GuesserGuess => guesser_sound(n[0], n[1]).map(|()| vec![0, u64::from(n[0].trailing_zeros())]),
+        Entry::GuessAlphabet | Entry::GuesserList => {
+            let text = call.pieces().collect::<Vec<_>>().concat();
+            Ok(vec![0, u64::from(mask(chosen(n[0]), &text).trailing_zeros())])
+        }
 
-        Entry::EncoderNew => ask(n[0] <= 5, 8).map(|()| vec![0, n[0], 0, 0, 0, 0, 0, 0]),
+        Entry::EncoderNew => {
+            ask(n[0] <= 5, 8)?;
+            Ok([vec![0], fresh_encoder(n[0], u64::from(chosen(n[1])))].concat())
+        }
         Entry::EncoderUpdate => update(&n, &call.text, memory.lent(0)),
         Entry::EncoderFinalize => finalize(&n, memory.lent(0)),
-        Entry::EncodeSequence => encode_sequence(n[0], &call.text, memory.lent(0)),
+        Entry::EncodeSequence => encode_sequence(n[0], chosen(n[1]), &call.text, memory.lent(0)),
         Entry::ByteRange => byte_range(n[0], n[1], n[2]),
         Entry::EncoderList => Ok(tally::encoder(call, memory)),
 
@@ -148,9 +188,14 @@ fn accepted(call: &Call, memory: &mut Memory) -> Answer {
     }
 }
 
+/// The choice that a number handed over as an argument makes: any but 0 folds.
+pub fn chosen(number: u64) -> bool {
+    number != 0
+}
+
 /// Membership; a byte above 255 is no member of any alphabet.
-fn contains(alphabet: u64, byte: u64) -> bool {
-    u8::try_from(byte).is_ok_and(|byte| code(alphabet, byte).is_some())
+fn contains(intake: Intake, byte: u64) -> bool {
+    u8::try_from(byte).is_ok_and(|byte| intake.code(byte).is_some())
 }
 
 fn display_name(alphabet: u64, out: &mut [u8]) -> Answer {
@@ -165,44 +210,54 @@ fn write(out: &mut [u8], bytes: &[u8]) -> Result<u64, No> {
     Ok(bytes.len() as u64)
 }
 
-fn guesser_sound(mask: u64) -> Result<(), No> {
-    ask((16..=31).contains(&mask), 1)
+/// Question 4 for a guesser, with the choice that its state keeps: 0 or 1.
+fn guesser_sound(mask: u64, fold: u64) -> Result<(), No> {
+    ask((16..=31).contains(&mask) && fold <= 1, 1)
 }
 
-/// Question 4 for an encoder. With no first non-member its position and byte mean nothing.
-fn encoder_sound(state: &[u64; 7]) -> Result<(), No> {
-    let [alphabet, seen, pending_bits, pending, has_bad, bad_position, bad_byte] = *state;
+/// The state of an encoder that has seen nothing.
+fn fresh_encoder(alphabet: u64, fold: u64) -> Vec<u64> {
+    vec![alphabet, 0, 0, 0, 0, 0, 0, fold]
+}
+
+/// Question 4 for an encoder, under the choice that its state keeps: 0 or 1. With no first non-member its position and
+/// byte mean nothing.
+fn encoder_sound(state: &[u64; 8]) -> Result<(), No> {
+    let [alphabet, seen, pending_bits, pending, has_bad, bad_position, bad_byte, fold] = *state;
     ask(alphabet <= 5, 8)?;
+    ask(fold <= 1, 1)?;
     ask(seen <= LIMIT, 1)?;
     ask(pending_bits == seen * width(alphabet) % 8, 1)?;
     ask(pending < 1 << pending_bits, 1)?;
     ask(has_bad <= 1, 1)?;
-    let truly = bad_byte <= 255 && !contains(alphabet, bad_byte) && bad_position < seen;
+    let intake = Intake { alphabet, fold: fold == 1 };
+    let truly = bad_byte <= 255 && !contains(intake, bad_byte) && bad_position < seen;
     ask(has_bad == 0 || truly, 1)
 }
 
-fn update(state: &[u64; 7], piece: &[u8], out: &mut [u8]) -> Answer {
+fn update(state: &[u64; 8], piece: &[u8], out: &mut [u8]) -> Answer {
     encoder_sound(state)?;
-    let [alphabet, seen, pending_bits, pending, has_bad, bad_position, bad_byte] = *state;
+    let [alphabet, seen, pending_bits, pending, has_bad, bad_position, bad_byte, fold] = *state;
+    let intake = Intake { alphabet, fold: fold == 1 };
     ask(piece.len() as u64 <= LIMIT - seen, 2)?;
     let mut row: Vec<u64> = bits(pending, pending_bits).collect();
-    row.extend(code_bits(alphabet, piece));
+    row.extend(code_bits(intake, piece));
     let whole = row.chunks_exact(8);
     let left = whole.remainder();
     let bytes: Vec<u8> = whole.clone().map(|byte| number(byte) as u8).collect();
     let count = write(out, &bytes)?;
-    let bad = match first_stranger(alphabet, piece) {
+    let bad = match first_stranger(intake, piece) {
         _ if has_bad == 1 => [1, bad_position, bad_byte],
         Some((place, byte)) => [1, seen + place, u64::from(byte)],
         None => [0, 0, 0],
     };
-    let next = [alphabet, seen + piece.len() as u64, left.len() as u64, number(left), bad[0], bad[1], bad[2]];
+    let next = [alphabet, seen + piece.len() as u64, left.len() as u64, number(left), bad[0], bad[1], bad[2], fold];
     Ok([0, count].into_iter().chain(next).collect())
 }
 
-fn finalize(state: &[u64; 7], out: &mut [u8]) -> Answer {
+fn finalize(state: &[u64; 8], out: &mut [u8]) -> Answer {
     encoder_sound(state)?;
-    let [_, _, pending_bits, pending, has_bad, bad_position, bad_byte] = *state;
+    let [_, _, pending_bits, pending, has_bad, bad_position, bad_byte, _] = *state;
     if has_bad == 1 {
         return Err(No::Member(bad_position, bad_byte as u8));
     }
@@ -211,12 +266,13 @@ fn finalize(state: &[u64; 7], out: &mut [u8]) -> Answer {
     Ok(vec![0, count, 0, 0])
 }
 
-fn encode_sequence(alphabet: u64, text: &[u8], out: &mut [u8]) -> Answer {
+fn encode_sequence(alphabet: u64, fold: bool, text: &[u8], out: &mut [u8]) -> Answer {
     ask(alphabet <= 5, 8)?;
     ask(text.len() as u64 <= LIMIT, 2)?;
-    let bytes = packed(alphabet, text);
+    let intake = Intake { alphabet, fold };
+    let bytes = packed(intake, text);
     ask(bytes.len() <= out.len(), 4)?;
-    match first_stranger(alphabet, text) {
+    match first_stranger(intake, text) {
         Some((place, byte)) => Err(No::Member(place, byte)),
         None => Ok(vec![0, write(out, &bytes)?, 0, 0]),
     }
@@ -251,7 +307,7 @@ fn window(call: &Call, out: &mut [u8]) -> Answer {
 }
 
 /// Question 4 for a stream.
-fn stream_sound(state: &[u64; 7]) -> Result<(), No> {
+fn stream_sound(state: &[u64; 8]) -> Result<(), No> {
     let [alphabet, skip, _, pending_bits, pending, ..] = *state;
     ask(alphabet <= 5, 8)?;
     ask(skip < 8 && pending_bits <= 7 && pending < 1 << pending_bits, 1)?;
@@ -260,7 +316,7 @@ fn stream_sound(state: &[u64; 7]) -> Result<(), No> {
 
 /// A state with p bits pending is that of a stream of skip 8 - p that has taken one byte, so one count serves both: with
 /// a skip q, k bases take ceil((q + k·b) / 8) bytes.
-fn stream_read(state: &[u64; 7], source: &[u8], out: &mut [u8]) -> Answer {
+fn stream_read(state: &[u64; 8], source: &[u8], out: &mut [u8]) -> Answer {
     stream_sound(state)?;
     let [alphabet, skip, budget, pending_bits, pending, ..] = *state;
     if skip > 0 && source.is_empty() {
@@ -290,7 +346,7 @@ pub fn stream_status(budget: u64, room: u64) -> u64 {
     }
 }
 
-fn stream_end(state: &[u64; 7]) -> Answer {
+fn stream_end(state: &[u64; 8]) -> Answer {
     stream_sound(state)?;
     let [_, skip, budget, ..] = *state;
     if skip > 0 || budget > 0 {

@@ -2,44 +2,66 @@
 
 use crate::case::{Call, Entry, Step};
 use crate::check::{Checker, Go};
-use crate::model::{self, LIMIT};
+use crate::model::{self, Intake, LIMIT};
 use crate::random::{beyond, Random};
 
 pub fn cases(check: &mut Checker, random: &mut Random, scale: u64) -> Go {
     starts(check, random)?;
-    for alphabet in 0..=5 {
-        short_sequences(check, random, alphabet)?;
-        strangers_at_every_place(check, random, alphabet)?;
-        every_cut(check, random, alphabet)?;
+    for intake in intakes() {
+        short_sequences(check, random, intake)?;
+        strangers_at_every_place(check, random, intake)?;
+        every_byte(check, random, intake)?;
+        every_cut(check, random, intake)?;
         for _ in 0..20 * scale {
-            bulk(check, random, alphabet)?;
+            bulk(check, random, intake)?;
         }
         for _ in 0..2000 * scale {
-            random_sequence(check, random, alphabet)?;
-            random_update(check, random, alphabet)?;
-            random_finalize(check, random, alphabet)?;
-            random_list(check, random, alphabet)?;
+            random_sequence(check, random, intake)?;
+            random_update(check, random, intake)?;
+            random_finalize(check, random, intake)?;
+            random_list(check, random, intake)?;
         }
     }
     beyond_alphabets(check, random)?;
     byte_ranges(check, random, scale)?;
-    (0..=5).try_for_each(|alphabet| long_runs(check, random, alphabet))
+    intakes().into_iter().try_for_each(|intake| long_runs(check, random, intake))
 }
 
-/// A fresh encoder has no input but its number, so the count of cases is the count of fills of memory.
+/// Every alphabet under both choices.
+fn intakes() -> Vec<Intake> {
+    (0..=5).flat_map(|alphabet| [false, true].map(|fold| Intake { alphabet, fold })).collect()
+}
+
+/// A fresh encoder has no input but its numbers: alphabet and choice.
 fn starts(check: &mut Checker, random: &mut Random) -> Go {
+    let folds: Vec<u64> = (0..=1).chain(beyond(1)).collect();
     for alphabet in (0..=5).chain(beyond(5)) {
-        check.call(&Call::new(Entry::EncoderNew, &[alphabet]))?;
+        for &fold in &folds {
+            check.call(&Call::new(Entry::EncoderNew, &[alphabet, fold]))?;
+        }
     }
-    for _ in 0..1000 {
-        check.call(&Call::new(Entry::EncoderNew, &[random.number()]))?;
+    for _ in 0..10_000 {
+        let alphabet = if random.one_in(2) { random.below(6) } else { random.number() };
+        check.call(&Call::new(Entry::EncoderNew, &[alphabet, random.number()]))?;
     }
     Ok(())
 }
 
+/// A text packed whole.
+fn sequence(check: &mut Checker, random: &mut Random, intake: Intake, text: &[u8], room: usize) -> Go {
+    let numbers = [intake.alphabet, random.fold(intake.fold)];
+    check.call(&Call::new(Entry::EncodeSequence, &numbers).text(text).room(room))
+}
+
+/// A text packed by a list of calls.
+fn list(check: &mut Checker, random: &mut Random, intake: Intake, text: &[u8], steps: Vec<Step>) -> Go {
+    let numbers = [intake.alphabet, random.fold(intake.fold)];
+    check.call(&Call::new(Entry::EncoderList, &numbers).text(text).steps(steps))
+}
+
 /// How many bytes `len` symbols fill.
-fn need(alphabet: u64, len: usize) -> usize {
-    (len as u64 * model::width(alphabet)).div_ceil(8) as usize
+fn need(intake: Intake, len: usize) -> usize {
+    (len as u64 * intake.width()).div_ceil(8) as usize
 }
 
 /// Room around what is needed: too little by one, just enough, a little more, none.
@@ -53,27 +75,27 @@ fn room_near(random: &mut Random, need: usize) -> usize {
 }
 
 /// Lengths around every byte boundary, with every room from none to more than enough.
-fn short_sequences(check: &mut Checker, random: &mut Random, alphabet: u64) -> Go {
+fn short_sequences(check: &mut Checker, random: &mut Random, intake: Intake) -> Go {
     for len in 0..=33 {
-        for room in 0..=need(alphabet, len) + 2 {
-            let text = random.members(alphabet, len);
-            check.call(&Call::new(Entry::EncodeSequence, &[alphabet]).text(&text).room(room))?;
+        for room in 0..=need(intake, len) + 2 {
+            let text = random.members(intake, len);
+            sequence(check, random, intake, &text, room)?;
         }
     }
     Ok(())
 }
 
 /// One non-member at every place, and two, with enough room and too little.
-fn strangers_at_every_place(check: &mut Checker, random: &mut Random, alphabet: u64) -> Go {
+fn strangers_at_every_place(check: &mut Checker, random: &mut Random, intake: Intake) -> Go {
     for len in 1..=20 {
         for place in 0..len {
             for second in place..len {
-                let mut text = random.members(alphabet, len);
-                text[place] = random.stranger(alphabet);
-                text[second] = random.stranger(alphabet);
-                let room = room_near(random, need(alphabet, len));
-                check.call(&Call::new(Entry::EncodeSequence, &[alphabet]).text(&text).room(room))?;
-                let state = sound_state(random, alphabet);
+                let mut text = random.members(intake, len);
+                text[place] = random.stranger(intake);
+                text[second] = random.stranger(intake);
+                let room = room_near(random, need(intake, len));
+                sequence(check, random, intake, &text, room)?;
+                let state = sound_state(random, intake);
                 let room = room_near(random, completed(&state, len));
                 check.call(&Call::new(Entry::EncoderUpdate, &state).text(&text).room(room))?;
             }
@@ -82,71 +104,92 @@ fn strangers_at_every_place(check: &mut Checker, random: &mut Random, alphabet: 
     Ok(())
 }
 
+/// Every byte by itself, among members, and as a state's first non-member, which it may not be.
+fn every_byte(check: &mut Checker, random: &mut Random, intake: Intake) -> Go {
+    for byte in 0..=255 {
+        for len in [1, 2, 9, 70] {
+            let mut text = random.members(intake, len);
+            text[random.below(len as u64) as usize] = byte;
+            sequence(check, random, intake, &text, need(intake, len))?;
+            let mut state = sound_state(random, intake);
+            check.call(&Call::new(Entry::EncoderUpdate, &state).text(&text).room(completed(&state, len)))?;
+            let seen = state[1];
+            bad(&mut state, random.below(seen.max(1)), u64::from(byte));
+            check.call(&Call::new(Entry::EncoderUpdate, &state).text(&text).room(completed(&state, len)))?;
+            check.call(&Call::new(Entry::EncoderFinalize, &state).room(1))?;
+        }
+    }
+    Ok(())
+}
+
 /// Long texts of bases, with another member and a non-member near the places where a search by blocks or by chunks turns.
-fn long_runs(check: &mut Checker, random: &mut Random, alphabet: u64) -> Go {
+fn long_runs(check: &mut Checker, random: &mut Random, intake: Intake) -> Go {
     for len in [63, 64, 65, 128, 129, 4095, 4096, 4097, 4160, 8191, 8192, 8256, 8257] {
         for place in [0, 7, 8, 63, 64, 127, 128, 4032, 4095, 4096, 4097, 4159, 4160, 8191, 8192, len - 1, len] {
             let mut text: Vec<u8> = (0..len).map(|_| random.pick(b"ACGT")).collect();
+            if intake.fold {
+                random.soft_mask(&mut text);
+            }
             if random.one_in(2) {
-                text[random.below(len as u64) as usize] = random.members(alphabet, 1)[0];
+                text[random.below(len as u64) as usize] = random.members(intake, 1)[0];
             }
             if place < len {
-                text[place] = random.stranger(alphabet);
+                text[place] = random.stranger(intake);
             }
-            check.call(&Call::new(Entry::EncodeSequence, &[alphabet]).text(&text).room(need(alphabet, len)))?;
-            let state = sound_state(random, alphabet);
+            sequence(check, random, intake, &text, need(intake, len))?;
+            let state = sound_state(random, intake);
             check.call(&Call::new(Entry::EncoderUpdate, &state).text(&text).room(completed(&state, len)))?;
         }
     }
     Ok(())
 }
 
-fn random_sequence(check: &mut Checker, random: &mut Random, alphabet: u64) -> Go {
+fn random_sequence(check: &mut Checker, random: &mut Random, intake: Intake) -> Go {
     let len = random.pick(&[8, 20, 70, 300]);
     let len = random.below(len) as usize;
     let rarity = random.pick(&[10, 100, 100_000]);
-    let text = random.mixed(alphabet, len, rarity);
-    let room = room_near(random, need(alphabet, len));
-    check.call(&Call::new(Entry::EncodeSequence, &[alphabet]).text(&text).room(room))
+    let text = random.mixed(intake, len, rarity);
+    let room = room_near(random, need(intake, len));
+    sequence(check, random, intake, &text, room)
 }
 
 /// Gives a state a first non-member.
-fn bad(state: &mut [u64; 7], position: u64, byte: u64) {
-    state[4..].copy_from_slice(&[1, position, byte]);
+fn bad(state: &mut [u64; 8], position: u64, byte: u64) {
+    state[4..7].copy_from_slice(&[1, position, byte]);
 }
 
 /// A state that answers every part of question 4 with yes, whether or not a text leads there.
-fn sound_state(random: &mut Random, alphabet: u64) -> [u64; 7] {
+fn sound_state(random: &mut Random, intake: Intake) -> [u64; 8] {
     let seen = match random.below(5) {
         0 => random.below(9),
         1 => LIMIT - random.below(30),
         2 => random.below(LIMIT + 1),
         _ => random.below(200),
     };
-    let pending_bits = seen * model::width(alphabet) % 8;
+    let pending_bits = seen * intake.width() % 8;
     let pending = random.below(1 << pending_bits);
-    let mut state = [alphabet, seen, pending_bits, pending, 0, 0, 0];
-    if alphabet < 4 && seen > 0 && random.one_in(3) {
+    let mut state = [intake.alphabet, seen, pending_bits, pending, 0, 0, 0, u64::from(intake.fold)];
+    if intake.alphabet < 4 && seen > 0 && random.one_in(3) {
         let position = random.below(seen);
         let position = random.pick(&[0, seen - 1, position]);
-        bad(&mut state, position, u64::from(random.stranger(alphabet)));
+        bad(&mut state, position, u64::from(random.stranger(intake)));
     } else if random.one_in(4) {
         // With no first non-member these two mean nothing, whatever they hold.
-        state[5..].copy_from_slice(&[random.number(), random.number()]);
+        state[5..7].copy_from_slice(&[random.number(), random.number()]);
     }
     state
 }
 
 /// A sound state with something changed that may leave it unsound.
-fn forged_state(random: &mut Random, alphabet: u64) -> [u64; 7] {
-    let mut state = sound_state(random, alphabet);
+fn forged_state(random: &mut Random, intake: Intake) -> [u64; 8] {
+    let mut state = sound_state(random, intake);
     let seen = state[1];
-    match random.below(10) {
+    match random.below(12) {
         0 => state[1] = LIMIT + 1 + random.below(16),
         // Seen so large that seen·b passes 64 bits, with the remainder that it leaves there.
         1 => {
             state[1] = random.number();
-            state[2] = state[1].wrapping_mul(model::width(alphabet)) % 8;
+            state[2] = state[1].wrapping_mul(intake.width()) % 8;
             state[3] = 0;
         }
         2 => state[2] = random.number(),
@@ -155,46 +198,52 @@ fn forged_state(random: &mut Random, alphabet: u64) -> [u64; 7] {
         5 => state[3] = random.number(),
         6 => state[4] = random.number(),
         7 => bad(&mut state, seen.wrapping_sub(1) % LIMIT, random.next() & 0xFF),
-        8 => bad(&mut state, seen + random.below(3), u64::from(random.stranger(alphabet))),
-        _ => bad(&mut state, seen / 2, 256 * (1 + random.below(5)) + u64::from(random.stranger(alphabet))),
+        8 => bad(&mut state, seen + random.below(3), u64::from(random.stranger(intake))),
+        9 => bad(&mut state, seen / 2, 256 * (1 + random.below(5)) + u64::from(random.stranger(intake))),
+        10 => state[7] = random.number(),
+        // A letter that is a member with folding and may be none without, with either choice.
+        _ => {
+            bad(&mut state, seen / 2, u64::from(random.members(intake, 1)[0].to_ascii_lowercase()));
+            state[7] = random.below(2);
+        }
     }
     state
 }
 
 /// How many bytes an update from a sound state writes for a piece.
-fn completed(state: &[u64; 7], len: usize) -> usize {
+fn completed(state: &[u64; 8], len: usize) -> usize {
     ((state[2] + len as u64 * model::width(state[0])) / 8) as usize
 }
 
-fn random_update(check: &mut Checker, random: &mut Random, alphabet: u64) -> Go {
+fn random_update(check: &mut Checker, random: &mut Random, intake: Intake) -> Go {
     let forged = random.one_in(4);
-    let state = if forged { forged_state(random, alphabet) } else { sound_state(random, alphabet) };
+    let state = if forged { forged_state(random, intake) } else { sound_state(random, intake) };
     let len = random.pick(&[2, 9, 40, 120]);
     let len = random.below(len) as usize;
     let rarity = random.pick(&[5, 50, 100_000]);
-    let piece = random.mixed(alphabet, len, rarity);
+    let piece = random.mixed(intake, len, rarity);
     let enough = if forged { len + 8 } else { completed(&state, len) };
     let room = room_near(random, enough);
     check.call(&Call::new(Entry::EncoderUpdate, &state).text(&piece).room(room))
 }
 
 /// Long texts, for whatever the encoder does in bulk: whole, as one piece from any state, and in pieces.
-fn bulk(check: &mut Checker, random: &mut Random, alphabet: u64) -> Go {
+fn bulk(check: &mut Checker, random: &mut Random, intake: Intake) -> Go {
     let len = 500 + random.below(4000) as usize;
     let rarity = random.pick(&[1500, 100_000_000]);
-    let text = random.mixed(alphabet, len, rarity);
-    let room = room_near(random, need(alphabet, len));
-    check.call(&Call::new(Entry::EncodeSequence, &[alphabet]).text(&text).room(room))?;
-    let state = sound_state(random, alphabet);
+    let text = random.mixed(intake, len, rarity);
+    let room = room_near(random, need(intake, len));
+    sequence(check, random, intake, &text, room)?;
+    let state = sound_state(random, intake);
     let room = room_near(random, completed(&state, len));
     check.call(&Call::new(Entry::EncoderUpdate, &state).text(&text).room(room))?;
     let first = random.below(len as u64) as usize;
-    let steps = exact(alphabet, &[first, len - first]);
-    check.call(&Call::new(Entry::EncoderList, &[alphabet]).text(&text).steps(steps))
+    let steps = exact(intake, &[first, len - first]);
+    list(check, random, intake, &text, steps)
 }
 
-fn random_finalize(check: &mut Checker, random: &mut Random, alphabet: u64) -> Go {
-    let state = if random.one_in(3) { forged_state(random, alphabet) } else { sound_state(random, alphabet) };
+fn random_finalize(check: &mut Checker, random: &mut Random, intake: Intake) -> Go {
+    let state = if random.one_in(3) { forged_state(random, intake) } else { sound_state(random, intake) };
     let room = random.pick(&[0, 0, 1, 1, 2, 7]);
     check.call(&Call::new(Entry::EncoderFinalize, &state).room(room))
 }
@@ -202,11 +251,12 @@ fn random_finalize(check: &mut Checker, random: &mut Random, alphabet: u64) -> G
 /// Numbers that name no alphabet, in a parameter and in states sound and unsound.
 fn beyond_alphabets(check: &mut Checker, random: &mut Random) -> Go {
     for alphabet in beyond(5).into_iter().cycle().take(3000) {
-        let mut state = forged_state(random, alphabet % 6);
+        let intake = Intake { alphabet: alphabet % 6, fold: random.one_in(2) };
+        let mut state = forged_state(random, intake);
         state[0] = alphabet;
         let len = random.below(9) as usize;
         let (text, room) = (random.bytes(len), random.below(9) as usize);
-        check.call(&Call::new(Entry::EncodeSequence, &[alphabet]).text(&text).room(room))?;
+        check.call(&Call::new(Entry::EncodeSequence, &[alphabet, random.number()]).text(&text).room(room))?;
         check.call(&Call::new(Entry::EncoderUpdate, &state).text(&text).room(room))?;
         check.call(&Call::new(Entry::EncoderFinalize, &state).room(room))?;
     }
@@ -218,8 +268,8 @@ fn last(room: usize) -> Step {
 }
 
 /// Steps for pieces of the given lengths, each with the room it needs.
-fn exact(alphabet: u64, lengths: &[usize]) -> Vec<Step> {
-    let b = model::width(alphabet) as usize;
+fn exact(intake: Intake, lengths: &[usize]) -> Vec<Step> {
+    let b = intake.width() as usize;
     let mut seen = 0;
     let mut steps = Vec::new();
     for &length in lengths {
@@ -231,7 +281,7 @@ fn exact(alphabet: u64, lengths: &[usize]) -> Vec<Step> {
 }
 
 /// Every way to cut texts of up to eight bytes into pieces, with members only and with one non-member.
-fn every_cut(check: &mut Checker, random: &mut Random, alphabet: u64) -> Go {
+fn every_cut(check: &mut Checker, random: &mut Random, intake: Intake) -> Go {
     for len in 1..=8usize {
         for cuts in 0..1usize << (len - 1) {
             let mut lengths = vec![1];
@@ -241,21 +291,21 @@ fn every_cut(check: &mut Checker, random: &mut Random, alphabet: u64) -> Go {
                     _ => lengths.push(1),
                 }
             }
-            let mut text = random.members(alphabet, len);
-            check.call(&Call::new(Entry::EncoderList, &[alphabet]).text(&text).steps(exact(alphabet, &lengths)))?;
-            text[random.below(len as u64) as usize] = random.stranger(alphabet);
-            check.call(&Call::new(Entry::EncoderList, &[alphabet]).text(&text).steps(exact(alphabet, &lengths)))?;
+            let mut text = random.members(intake, len);
+            list(check, random, intake, &text, exact(intake, &lengths))?;
+            text[random.below(len as u64) as usize] = random.stranger(intake);
+            list(check, random, intake, &text, exact(intake, &lengths))?;
         }
     }
     Ok(())
 }
 
 /// A list with empty pieces, refused calls, a `finalize` too early and one at the end.
-fn random_list(check: &mut Checker, random: &mut Random, alphabet: u64) -> Go {
+fn random_list(check: &mut Checker, random: &mut Random, intake: Intake) -> Go {
     let calls = random.below(7) as usize;
     let longest = random.pick(&[3, 9, 40]);
     let lengths: Vec<usize> = (0..calls).map(|_| random.below(longest) as usize).collect();
-    let mut steps = exact(alphabet, &lengths);
+    let mut steps = exact(intake, &lengths);
     for step in &mut steps {
         if random.one_in(6) {
             step.room = random.below(6) as usize;
@@ -265,8 +315,8 @@ fn random_list(check: &mut Checker, random: &mut Random, alphabet: u64) -> Go {
         steps.insert(random.below(calls as u64 + 1) as usize, last(random.below(2) as usize));
     }
     let rarity = random.pick(&[20, 100_000]);
-    let text = random.mixed(alphabet, lengths.iter().sum(), rarity);
-    check.call(&Call::new(Entry::EncoderList, &[alphabet]).text(&text).steps(steps))
+    let text = random.mixed(intake, lengths.iter().sum(), rarity);
+    list(check, random, intake, &text, steps)
 }
 
 /// Every small range, ranges near 2^60, and numbers beyond.

@@ -36,6 +36,7 @@ mod alphabet {
 
     fn plain(call: &Call, out: &mut [u8]) -> Vec<u64> {
         let [first, second, ..] = call.numbers;
+        let state = Guesser { mask: first, fold: second };
         let (text, len) = (call.text.as_ptr(), call.text.len());
         // SAFETY: each pointer is lent with its length and the two memories are apart.
         unsafe {
@@ -44,22 +45,22 @@ mod alphabet {
                 Entry::BitsPerSymbol => words(abi::fc_bits_per_symbol(first)),
                 Entry::Contains => words(abi::fc_contains(first, second)),
                 Entry::DisplayName => words(abi::fc_display_name(first, out.as_mut_ptr(), out.len())),
-                Entry::GuesserNew => words(abi::fc_guesser_new()),
-                Entry::GuesserUpdate => words(abi::fc_guesser_update(Guesser { mask: first }, text, len)),
-                Entry::GuesserGuess => words(abi::fc_guesser_guess(Guesser { mask: first })),
-                Entry::GuessAlphabet => words(abi::fc_guess_alphabet(text, len)),
+                Entry::GuesserNew => words(abi::fc_guesser_new(first)),
+                Entry::GuesserUpdate => words(abi::fc_guesser_update(state, text, len)),
+                Entry::GuesserGuess => words(abi::fc_guesser_guess(state)),
+                Entry::GuessAlphabet => words(abi::fc_guess_alphabet(first, text, len)),
                 _ => unreachable!("{:?}", call.entry),
             }
         }
     }
 
     fn list(call: &Call, fault: Option<Fault>) -> Vec<u64> {
-        let mut mask = faulty(&Call::new(Entry::GuesserNew, &[]), &mut [], fault, plain)[0];
+        let mut state = faulty(&Call::new(Entry::GuesserNew, &call.numbers[..1]), &mut [], fault, plain);
         for piece in call.pieces() {
-            let update = Call::new(Entry::GuesserUpdate, &[mask]).text(piece);
-            mask = faulty(&update, &mut [], fault, plain)[1];
+            let update = Call::new(Entry::GuesserUpdate, &state).text(piece);
+            state = faulty(&update, &mut [], fault, plain)[1..].to_vec();
         }
-        faulty(&Call::new(Entry::GuesserGuess, &[mask]), &mut [], fault, plain)
+        faulty(&Call::new(Entry::GuesserGuess, &state), &mut [], fault, plain)
     }
 }
 
@@ -76,17 +77,19 @@ mod packing {
     }
 
     fn plain(call: &Call, out: &mut [u8]) -> Vec<u64> {
-        let [alphabet, seen, pending_bits, pending, has_bad, bad_position, bad_byte] = call.numbers;
-        let state = Encoder { alphabet, seen, pending_bits, pending, has_bad, bad_position, bad_byte };
+        let [alphabet, seen, pending_bits, pending, has_bad, bad_position, bad_byte, fold] = call.numbers;
+        let state = Encoder { alphabet, seen, pending_bits, pending, has_bad, bad_position, bad_byte, fold };
         let (text, len) = (call.text.as_ptr(), call.text.len());
         let (out, room) = (out.as_mut_ptr(), out.len());
         // SAFETY: each pointer is lent with its length and the two memories are apart.
         unsafe {
             match call.entry {
-                Entry::EncoderNew => words(abi::fc_encoder_new(alphabet)),
+                Entry::EncoderNew => words(abi::fc_encoder_new(alphabet, call.numbers[1])),
                 Entry::EncoderUpdate => words(abi::fc_encoder_update(state, text, len, out, room)),
                 Entry::EncoderFinalize => words(abi::fc_encoder_finalize(state, out, room)),
-                Entry::EncodeSequence => words(abi::fc_encode_sequence(alphabet, text, len, out, room)),
+                Entry::EncodeSequence => {
+                    words(abi::fc_encode_sequence(alphabet, call.numbers[1], text, len, out, room))
+                }
                 Entry::ByteRange => {
                     let [start, end, bits, ..] = call.numbers;
                     words(abi::fc_byte_range_for_bases(start, end, bits))
@@ -98,7 +101,7 @@ mod packing {
 
     /// Each call gets the state last returned; an accepted `finalize` ends the list.
     fn list(call: &Call, memory: &mut Memory, fault: Option<Fault>) -> Vec<u64> {
-        let start = Call::new(Entry::EncoderNew, &call.numbers[..1]);
+        let start = Call::new(Entry::EncoderNew, &call.numbers[..2]);
         let mut state = faulty(&start, &mut [], fault, plain)[1..].to_vec();
         let mut pieces = call.pieces();
         let mut words = Vec::new();

@@ -1,6 +1,6 @@
 //! A small seeded generator (SplitMix64), so that a run can be repeated anywhere from the seed it prints.
 
-use crate::model;
+use crate::model::{self, Intake};
 
 pub struct Random(u64);
 
@@ -31,35 +31,74 @@ impl Random {
         (0..len).map(|_| self.next() as u8).collect()
     }
 
-    /// A text of members of one alphabet.
-    pub fn members(&mut self, alphabet: u64, len: usize) -> Vec<u8> {
-        match model::LISTS.get(alphabet as usize) {
-            Some(list) => (0..len).map(|_| self.pick(list)).collect(),
-            None => self.bytes(len),
+    /// A text of members; where lowercase is folded, soft-masked in some way or not at all.
+    pub fn members(&mut self, intake: Intake, len: usize) -> Vec<u8> {
+        let Some(list) = model::LISTS.get(intake.alphabet as usize) else { return self.bytes(len) };
+        let mut text: Vec<u8> = (0..len).map(|_| self.pick(list)).collect();
+        if intake.fold {
+            self.soft_mask(&mut text);
+        }
+        text
+    }
+
+    /// Writes letters of a text in lowercase: none, one, all, some by chance, or runs of them.
+    pub fn soft_mask(&mut self, text: &mut [u8]) {
+        let len = text.len() as u64;
+        match self.below(6) {
+            1 if len > 0 => text[self.below(len) as usize].make_ascii_lowercase(),
+            2 => text.make_ascii_lowercase(),
+            3 => text.iter_mut().filter(|_| self.one_in(3)).for_each(|byte| byte.make_ascii_lowercase()),
+            4 | 5 => {
+                let longest = self.pick(&[3, 20, 300]);
+                let mut from = self.below(longest);
+                while from < len {
+                    let to = len.min(from + 1 + self.below(longest));
+                    text[from as usize..to as usize].make_ascii_lowercase();
+                    from = to + 1 + self.below(longest);
+                }
+            }
+            _ => {}
         }
     }
 
-    /// A byte that the alphabet does not hold; a byte of no meaning where it holds them all. Lowercase letters and
-    /// neighbours of members come as often as the rest.
-    pub fn stranger(&mut self, alphabet: u64) -> u8 {
+    /// A byte that is no member; a byte of no meaning where all are. Lowercase letters, their neighbours and those of
+    /// members come as often as the rest.
+    pub fn stranger(&mut self, intake: Intake) -> u8 {
         for _ in 0..1000 {
-            let byte = if self.one_in(2) { self.next() as u8 } else { self.pick(b"acgtnANBRUXZ*@[`\0\x7f\xff") };
-            if model::code(alphabet, byte).is_none() {
+            let byte = match self.below(4) {
+                0 | 1 => self.next() as u8,
+                2 => b'a' + self.below(26) as u8,
+                _ => self.pick(b"ANBRUXZ*@[`{|}~\0\x7f\x80\xc1\xe1\xfa\xff"),
+            };
+            if intake.code(byte).is_none() {
                 return byte;
             }
         }
         b'a'
     }
 
-    /// Members with a stranger here and there, one in about `rarity` bytes.
-    pub fn mixed(&mut self, alphabet: u64, len: usize, rarity: u64) -> Vec<u8> {
-        let mut text = self.members(alphabet, len);
+    /// Members with a stranger here and there, one in about `rarity` bytes. Without folding some of the texts are
+    /// soft-masked all the same, in the bit-packed alphabets a text with runs of strangers.
+    pub fn mixed(&mut self, intake: Intake, len: usize, rarity: u64) -> Vec<u8> {
+        let mut text = self.members(intake, len);
+        if !intake.fold && self.one_in(8) {
+            self.soft_mask(&mut text);
+        }
         for byte in &mut text {
             if self.one_in(rarity) {
-                *byte = self.stranger(alphabet);
+                *byte = self.stranger(intake);
             }
         }
         text
+    }
+
+    /// The choice as an argument: 0, or any number that folds.
+    pub fn fold(&mut self, fold: bool) -> u64 {
+        match (fold, self.below(3)) {
+            (false, _) => 0,
+            (true, 0) => self.number().max(1),
+            (true, _) => 1,
+        }
     }
 
     /// A number around one of those that a port may get wrong: small, near 2^60, or past what a narrow type holds.

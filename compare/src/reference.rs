@@ -1,5 +1,6 @@
 //! The Rust's answers, put in the port's form as document 01 maps them: `Vec` to lent memory and a count, `Read` to
-//! source bytes, `&mut self` to a state. Only calls in demand 2's domain get one.
+//! source bytes, `&mut self` to a state. Only calls in demand 2's domain get one. The Rust does not fold: a call that
+//! folds is put to it with the uppercased text, and the byte that it then reports is exchanged for the one received.
 
 use crate::case::{Call, Entry, Layer, Memory};
 use crate::model;
@@ -28,7 +29,10 @@ pub struct Opinion {
 
 /// Collects opinions about one call, each with memory of its own.
 struct Panel<'a> {
+    /// The call as the Rust is asked.
     call: &'a Call,
+    /// The call as it was received.
+    received: &'a Call,
     before: &'a Memory,
     opinions: Vec<Opinion>,
 }
@@ -36,7 +40,10 @@ struct Panel<'a> {
 impl Panel<'_> {
     fn say(&mut self, of: &'static str, answer: impl FnOnce(&Call, &mut Memory) -> Vec<u64>) {
         let mut memory = self.before.clone();
-        let words = answer(self.call, &mut memory);
+        let mut words = answer(self.call, &mut memory);
+        if self.received.text != self.call.text {
+            report_received(self.received, &mut words);
+        }
         self.opinions.push(Opinion { of, words, memory });
     }
 
@@ -54,6 +61,33 @@ fn write(out: &mut [u8], bytes: &[u8]) {
     out[..bytes.len()].copy_from_slice(bytes);
 }
 
+/// The call that the Rust is asked: with folding the text is uppercased, but not for Ascii and Unknown.
+fn asked(call: &Call) -> Call {
+    let mut asked = call.clone();
+    if call.folds() && call.alphabet().unwrap_or(0) < 4 {
+        asked.text.make_ascii_uppercase();
+    }
+    asked
+}
+
+/// Exchanges the byte that the Rust reports of an uppercased text for the one received in its place. A byte that is not
+/// its uppercase stays, and differs then.
+fn report_received(call: &Call, words: &mut [u64]) {
+    let exchange = |before: u64, found: &mut [u64]| {
+        let place = found[0].checked_sub(before).and_then(|place| call.text.get(place as usize));
+        if let Some(byte) = place.filter(|byte| u64::from(byte.to_ascii_uppercase()) == found[1]) {
+            found[1] = u64::from(*byte);
+        }
+    };
+    match call.entry {
+        Entry::EncoderUpdate if words[6] == 1 => exchange(call.numbers[1], &mut words[7..9]),
+        Entry::EncodeSequence | Entry::EncoderList => {
+            words.chunks_mut(4).filter(|answer| answer[0] == 5).for_each(|answer| exchange(0, &mut answer[2..]));
+        }
+        _ => {}
+    }
+}
+
 /// The opinions of the Rust on a call that document 01 answers with `expected`; none outside demand 2's domain.
 pub fn opinions(call: &Call, before: &Memory, expected: &[u64]) -> Vec<Opinion> {
     let list = matches!(call.entry, Entry::EncoderList | Entry::StreamList);
@@ -61,7 +95,7 @@ pub fn opinions(call: &Call, before: &Memory, expected: &[u64]) -> Vec<Opinion> 
     let stream = call.entry == Entry::StreamList; // its only refusal is the end call's, which the Rust has not
     let inside = stream || refusals.clone().all(|&number| number == 0 || number == 5);
     let answers_no_refusal = matches!(call.entry, Entry::AbiVersion | Entry::GuesserNew);
-    let mut panel = Panel { call, before, opinions: Vec::new() };
+    let mut panel = Panel { call: &asked(call), received: call, before, opinions: Vec::new() };
     if call.alphabet().unwrap_or(0) > 5 || !(inside || answers_no_refusal) {
         return panel.opinions;
     }
@@ -107,7 +141,7 @@ fn of_alphabet(panel: &mut Panel) {
         }),
         Entry::GuessAlphabet => {
             panel.say("guess_alphabet", |call, _| vec![0, number_of(alphabet::guess_alphabet(&call.text))]);
-            panel.say("ALPHABET_MASK", |call, _| vec![0, u64::from(folded(&call.text).trailing_zeros())]);
+            panel.say("ALPHABET_MASK", |call, _| vec![0, u64::from(masked(&call.text).trailing_zeros())]);
         }
         Entry::GuesserList => panel.say("AlphabetGuesser", |call, _| {
             let mut guesser = AlphabetGuesser::new();
@@ -122,7 +156,7 @@ fn acc(guesser: &AlphabetGuesser) -> u64 {
     u64::from(alphabet::inside::acc(guesser))
 }
 
-fn folded(text: &[u8]) -> u8 {
+fn masked(text: &[u8]) -> u8 {
     let mask = alphabet::inside::alphabet_mask();
     text.iter().fold(31, |left, &byte| left & mask[byte as usize])
 }
@@ -166,12 +200,13 @@ fn of_packing(panel: &mut Panel) {
 
 /// An encoder in the state that the call hands in, which is sound.
 fn forged(call: &Call) -> SequenceEncoder {
-    let [_, seen, pending_bits, pending, has_bad, position, byte] = call.numbers;
+    let [_, seen, pending_bits, pending, has_bad, position, byte, _] = call.numbers;
     let first_bad = (has_bad == 1).then_some((position as usize, byte as u8));
     let state = State { symbols_seen: seen as usize, buffer: pending, buffer_bits: pending_bits as usize, first_bad };
     inside::encoder(kind(call), state)
 }
 
+/// The state of the Rust's encoder; it has no choice to tell.
 fn next_words(alphabet: u64, encoder: &SequenceEncoder) -> Vec<u64> {
     let state = inside::state(encoder);
     let (position, byte) = state.first_bad.unwrap_or((0, 0));

@@ -9,8 +9,15 @@ use std::collections::{BTreeMap, HashSet};
 /// Nothing stops the making of cases here.
 pub type Go = Result<(), std::convert::Infallible>;
 
-/// The most lines of an entry point.
-const LINES: usize = 300;
+/// The most lines of an entry point. Those that have the choice to fold get more; an encoder's start has little else.
+fn lines(entry: Entry) -> usize {
+    match entry {
+        Entry::EncoderNew => 120,
+        _ if entry.shape().numbers.ends_with("fold") => 350,
+        _ => 300,
+    }
+}
+
 /// By how many bytes a call lends, as text or as output memory, whichever is more: the most bytes of its class, and the
 /// most lines of a group of that class. An entry point has several groups in each: one for each refusal in each
 /// alphabet, and more. From 256 bases on the port reads Dna2bit by rows.
@@ -26,7 +33,7 @@ struct Kept {
 pub struct Checker {
     random: Random,
     /// The groups of an entry point, by what tells them apart.
-    groups: Vec<BTreeMap<[u64; 4], Kept>>,
+    groups: Vec<BTreeMap<[u64; 5], Kept>>,
     /// The rows of the worked table, which are taken whole.
     rows: Vec<Call>,
 }
@@ -43,11 +50,11 @@ impl Checker {
         let lent = call.text.len().max(call.room);
         let Some(class) = CLASSES.iter().position(|&(most, _)| lent <= most) else { return Ok(()) };
         let words = model::answer(call, &mut Memory::for_call(call, 0));
-        let [refusal, alphabet, told] = group(call, &words);
+        let [refusal, alphabet, told, fold] = group(call, &words);
         if !call.steps.is_empty() || (class > 0 && refusal != 0 && refusal != 5) {
             return Ok(());
         }
-        let kept = self.groups[call.entry as usize].entry([class as u64, refusal, alphabet, told]).or_default();
+        let kept = self.groups[call.entry as usize].entry([class as u64, refusal, alphabet, told, fold]).or_default();
         kept.offered += 1;
         if kept.calls.len() < CLASSES[class].1 {
             kept.calls.push(call.clone());
@@ -75,14 +82,14 @@ impl Checker {
         let rows = self.rows.iter().filter(|call| call.entry == entry);
         let turns = (0..CLASSES[0].1).flat_map(|turn| groups.values().filter_map(move |kept| kept.calls.get(turn)));
         let mut seen = HashSet::new();
-        rows.chain(turns).filter(|call| seen.insert(call.to_string())).take(LINES).collect()
+        rows.chain(turns).filter(|call| seen.insert(call.to_string())).take(lines(entry)).collect()
     }
 }
 
-/// What tells the groups of an entry point apart: the refusal, the alphabet or what stands for it, and what else the
-/// answer tells.
-fn group(call: &Call, words: &[u64]) -> [u64; 3] {
-    let refusal = if words.len() > 1 { words[0] } else { 0 };
+/// What tells the groups of an entry point apart: the refusal, the alphabet or what stands for it, what else the answer
+/// tells, and the choice to fold: 0, 1 or a number above.
+fn group(call: &Call, words: &[u64]) -> [u64; 4] {
+    let refusal = if call.entry.shape().answer.starts_with("refusal") { words[0] } else { 0 };
     let alphabet = match call.entry {
         Entry::GuesserUpdate if refusal > 0 => 0,
         Entry::GuessAlphabet | Entry::GuesserGuess | Entry::GuesserUpdate => words[1],
@@ -97,5 +104,5 @@ fn group(call: &Call, words: &[u64]) -> [u64; 3] {
         _ if call.entry.shape().layer == Layer::Windows => words[1].min(1), // whether the answer is empty
         _ => 0,
     };
-    [refusal, alphabet, told]
+    [refusal, alphabet, told, call.fold_place().map_or(0, |place| call.numbers[place].min(2))]
 }

@@ -1,13 +1,13 @@
 //! Document 01's record: what a list of calls answers, told from the text or the lent bytes alone and not from states.
 
 use crate::case::{Call, Memory};
-use crate::model::{base, first_stranger, packed, stream_status, width, HUNGRY, LIMIT};
+use crate::model::{base, chosen, first_stranger, packed, stream_status, width, Intake, HUNGRY, LIMIT};
 
 /// A list of `update` and `finalize` calls from a fresh encoder. Each update gets the next bytes of the call's text,
 /// also after a refusal; an accepted `finalize` ends the list.
 pub fn encoder(call: &Call, memory: &mut Memory) -> Vec<u64> {
-    let alphabet = call.numbers[0];
-    let b = width(alphabet);
+    let intake = Intake { alphabet: call.numbers[0], fold: chosen(call.numbers[1]) };
+    let b = intake.width();
     let mut text: Vec<u8> = Vec::new();
     let mut pieces = call.pieces();
     let mut words = Vec::new();
@@ -15,7 +15,7 @@ pub fn encoder(call: &Call, memory: &mut Memory) -> Vec<u64> {
         let n = text.len() as u64;
         let out = memory.lent(at);
         if step.last {
-            let answer = finalize(alphabet, &text, out);
+            let answer = finalize(intake, &text, out);
             words.extend(answer);
             if answer[0] == 0 {
                 break;
@@ -34,21 +34,21 @@ pub fn encoder(call: &Call, memory: &mut Memory) -> Vec<u64> {
         };
         if refusal == 0 {
             text.extend(piece);
-            out[..whole.len()].copy_from_slice(&packed(alphabet, &text)[whole.clone()]);
+            out[..whole.len()].copy_from_slice(&packed(intake, &text)[whole.clone()]);
         }
         words.extend([refusal, if refusal == 0 { whole.len() as u64 } else { 0 }, 0, 0]);
     }
     words
 }
 
-fn finalize(alphabet: u64, text: &[u8], out: &mut [u8]) -> [u64; 4] {
-    if let Some((position, byte)) = first_stranger(alphabet, text) {
+fn finalize(intake: Intake, text: &[u8], out: &mut [u8]) -> [u64; 4] {
+    if let Some((position, byte)) = first_stranger(intake, text) {
         return [5, 0, position, u64::from(byte)];
     }
-    if text.len() as u64 * width(alphabet) % 8 == 0 {
+    if text.len() as u64 * intake.width() % 8 == 0 {
         return [0, 0, 0, 0];
     }
-    match (out.first_mut(), packed(alphabet, text).last()) {
+    match (out.first_mut(), packed(intake, text).last()) {
         (Some(place), Some(&last)) => {
             *place = last;
             [0, 1, 0, 0]

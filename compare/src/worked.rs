@@ -1,4 +1,5 @@
-//! Document 01's worked table, row by row: it holds the model to the document's own figures.
+//! Document 01's worked table, row by row: it holds the model to the document's own figures. Its rows do not fold; those
+//! of document 02's first request, which do, stand behind them.
 
 use crate::case::{Call, Entry, Step};
 use crate::check::{Checker, Go};
@@ -6,7 +7,7 @@ use crate::model::{DONE, FULL, HUNGRY, LIMIT};
 
 /// All rows.
 pub fn rows(check: &mut Checker) -> Go {
-    let rows = [guesses(), packings(), windows(), streams()].concat();
+    let rows = [guesses(), packings(), windows(), streams(), folded()].concat();
     for (call, words, bytes) in rows {
         check.row(&call, &words, &bytes)?;
     }
@@ -19,14 +20,14 @@ type Row = (Call, Vec<u64>, Vec<u8>);
 fn guesses() -> Vec<Row> {
     let texts: [&[u8]; 5] = [b"", b"ACGU", b"ACGTS", b"ACGX", b"acgt"];
     let guess = |(place, text): (usize, &&[u8])| {
-        (Call::new(Entry::GuessAlphabet, &[]).text(text), vec![0, place as u64], vec![])
+        (Call::new(Entry::GuessAlphabet, &[0]).text(text), vec![0, place as u64], vec![])
     };
     texts.iter().enumerate().map(guess).collect()
 }
 
 fn packings() -> Vec<Row> {
     let packed = |alphabet: u64, text: &[u8], bytes: &[u8]| {
-        let call = Call::new(Entry::EncodeSequence, &[alphabet]).text(text).room(bytes.len() + 1);
+        let call = Call::new(Entry::EncodeSequence, &[alphabet, 0]).text(text).room(bytes.len() + 1);
         (call, vec![0, bytes.len() as u64, 0, 0], bytes.to_vec())
     };
     let steps = vec![Step { length: 4, room: 1, last: false }, Step { length: 0, room: 1, last: true }];
@@ -36,8 +37,12 @@ fn packings() -> Vec<Row> {
         packed(1, b"ACGTNRYU", &[0x05, 0x39, 0x77]),
         packed(2, b"NACM", &[0x01, 0x23]),
         packed(3, b"MK*", &[0x52, 0x28]),
-        (Call::new(Entry::EncodeSequence, &[0]).text(b"ACNT").room(1), vec![5, 0, 2, 0x4E], vec![]),
-        (Call::new(Entry::EncoderList, &[0]).text(b"ACNT").steps(steps), vec![0, 1, 0, 0, 5, 0, 2, 0x4E], vec![0x9C]),
+        (Call::new(Entry::EncodeSequence, &[0, 0]).text(b"ACNT").room(1), vec![5, 0, 2, 0x4E], vec![]),
+        (
+            Call::new(Entry::EncoderList, &[0, 0]).text(b"ACNT").steps(steps),
+            vec![0, 1, 0, 0, 5, 0, 2, 0x4E],
+            vec![0x9C],
+        ),
         (Call::new(Entry::ByteRange, &[2, 6, 3]), vec![0, 0, 3], vec![]),
         (Call::new(Entry::ByteRange, &[5, 5, 2]), vec![0, 1, 2], vec![]),
     ]
@@ -83,5 +88,37 @@ fn streams() -> Vec<Row> {
         read([0, 0, 9, 6, 0], &[], 9, [0, 0, 3, HUNGRY]),
         read([0, 0, 9, 6, 0], &[], 3, [0, 0, 3, FULL]),
         read([0, 0, 3, 6, 0], &[], 3, [0, 0, 3, DONE]),
+    ]
+}
+
+/// What the choice to fold makes of rows of the table; that of a state, and the sentences on Ascii and on a refusal 5.
+fn folded() -> Vec<Row> {
+    let guess = |text: &[u8], number: u64| (Call::new(Entry::GuessAlphabet, &[1]).text(text), vec![0, number], vec![]);
+    let packed = |alphabet: u64, fold: u64, text: &[u8], words: [u64; 4], bytes: &[u8]| {
+        let call = Call::new(Entry::EncodeSequence, &[alphabet, fold]).text(text).room(text.len());
+        (call, words.to_vec(), bytes.to_vec())
+    };
+    let finalize = |alphabet: u64, byte: u64, fold: u64, words: [u64; 4]| {
+        (Call::new(Entry::EncoderFinalize, &[alphabet, 4, 0, 0, 1, 2, byte, fold]), words.to_vec(), vec![])
+    };
+    vec![
+        guess(b"acgt", 0),
+        guess(b"acgu", 1),
+        guess(b"acgts", 2),
+        guess(b"acgx", 3),
+        guess(b"ac`gt", 4),
+        guess(b"acgt{", 4),
+        packed(0, 1, b"acGT", [0, 1, 0, 0], &[0x9C]),
+        packed(0, 1, b"acnt", [5, 0, 2, 0x6E], &[]),
+        packed(0, 1, b"AC{t", [5, 0, 2, 0x7B], &[]),
+        packed(0, 0, b"acnt", [5, 0, 0, 0x61], &[]),
+        packed(3, 1, b"mk*", [0, 2, 0, 0], &[0x52, 0x28]),
+        packed(4, 1, b"aZ", [0, 2, 0, 0], b"aZ"),
+        packed(5, 1, b"aZ", [0, 2, 0, 0], b"aZ"),
+        finalize(0, 0x61, 0, [5, 0, 2, 0x61]),
+        finalize(0, 0x61, 1, [1, 0, 0, 0]),
+        finalize(0, 0x6E, 1, [5, 0, 2, 0x6E]),
+        finalize(0, 0x6E, 2, [1, 0, 0, 0]),
+        finalize(6, 0x6E, 2, [8, 0, 0, 0]),
     ]
 }

@@ -8,12 +8,14 @@ const LEGEND: &str = "\
 Mb/s: millions of bases a second; ns: nanoseconds a call. Ratios are of best times: below 1 the port is faster.
 memcpy copies as many bytes as the call writes (a guess: reads). The Rust returns a new Vec, the port writes into
 memory lent to it: alloc is the share of the Rust's best time that allocating and touching such a Vec takes by itself,
-and P/(R-a) the ratio without it.
+and P/(R-a) the ratio without it. A row `folded ..` is the port folding a soft-masked text; the Rust works on the same
+text in uppercase, and so does the port without folding, in the same rounds: P/U is the ratio to that.
 ";
 
 /// The columns of the file that --tsv asks for: sizes of one call, times of one call in nanoseconds, ratios of best times.
-/// Where the Rust returns no Vec, `allocated` and `alloc_best_ns` are 0.
-const COLUMNS: [&str; 15] = [
+/// Where the Rust returns no Vec, `allocated` and `alloc_best_ns` are 0. Where the row does not fold, what is told of the
+/// port without folding is 0.
+const COLUMNS: [&str; 18] = [
     "row",
     "calls",
     "bases",
@@ -26,9 +28,12 @@ const COLUMNS: [&str; 15] = [
     "memcpy_best_ns",
     "memcpy_median_ns",
     "alloc_best_ns",
+    "unfolded_best_ns",
+    "unfolded_median_ns",
     "port_to_rust",
     "port_to_memcpy",
     "port_to_rust_less_alloc",
+    "port_to_unfolded",
 ];
 
 /// One row: how often a round calls, and what a call handles and writes.
@@ -55,10 +60,19 @@ pub struct Bench {
 }
 
 /// Best and median of the rounds, in nanoseconds a call.
-#[derive(Clone, Copy)]
+#[derive(Clone, Copy, Default)]
 struct Figure {
     best: f64,
     median: f64,
+}
+
+/// What a row's rounds gave; `unfolded` is all zeros where the row does not fold.
+struct Figures {
+    port: Figure,
+    rust: Figure,
+    unfolded: Figure,
+    copy: Figure,
+    alloc: Figure,
 }
 
 impl Bench {
@@ -77,7 +91,7 @@ impl Bench {
         println!("Rounds: {}. Long rows: {} bases.", self.rounds, self.long);
         print!("{LEGEND}");
         let names = ["port", "median", "Rust", "median", "memcpy"].map(|name| format!("{name:>10}")).concat();
-        println!("{:36}{:>5}{names}{:>7}{:>9}{:>9}{:>9}", "row", "", "alloc", "P/R", "P/copy", "P/(R-a)");
+        println!("{:36}{:>5}{names}{:>7}{:>9}{:>9}{:>9}{:>9}", "row", "", "alloc", "P/R", "P/copy", "P/(R-a)", "P/U");
         self.table = COLUMNS.join("\t") + "\n";
     }
 
@@ -85,49 +99,60 @@ impl Bench {
         self.words.is_empty() || self.words.iter().any(|word| name.contains(word.as_str()))
     }
 
-    /// Measures one row: in each round the port and the Rust, the first to run changing with the round, then the copy
-    /// and the allocation. Each closure makes the whole round's calls.
+    /// Measures one row. Each closure makes the whole round's calls.
     pub fn row(&mut self, row: &Row, port: &mut dyn FnMut(), rust: &mut dyn FnMut()) {
+        self.measure(row, &mut [port, rust]);
+    }
+
+    /// Measures a row that folds, with the port's calls without folding beside it.
+    pub fn folded(&mut self, row: &Row, port: &mut dyn FnMut(), rust: &mut dyn FnMut(), unfolded: &mut dyn FnMut()) {
+        self.measure(row, &mut [port, rust, unfolded]);
+    }
+
+    /// In each round all sides take turns, the first to run changing with the round, then the copy and the allocation.
+    fn measure(&mut self, row: &Row, sides: &mut [&mut dyn FnMut()]) {
         if !self.wants(row.name) {
             return;
         }
         for buffer in &mut self.buffers {
             buffer.resize(buffer.len().max(row.copied), 0x5A);
         }
-        let mut times: [Vec<f64>; 4] = Default::default();
-        port();
-        rust();
+        let mut times: [Vec<f64>; 5] = Default::default();
+        sides.iter_mut().for_each(|side| side());
         for round in 0..self.rounds {
-            for turn in 0..2 {
-                match (round + turn) % 2 {
-                    0 => times[0].push(clock(port)),
-                    _ => times[1].push(clock(rust)),
-                }
+            for turn in 0..sides.len() {
+                let side = (round + turn) % sides.len();
+                times[side].push(clock(sides[side]));
             }
             let [from, to] = &mut self.buffers;
-            times[2].push(clock(&mut || copy(&from[..row.copied], &mut to[..row.copied], row.calls)));
-            times[3].push(clock(&mut || allocate(row.allocated, row.calls)));
+            times[3].push(clock(&mut || copy(&from[..row.copied], &mut to[..row.copied], row.calls)));
+            times[4].push(clock(&mut || allocate(row.allocated, row.calls)));
         }
-        let figures = times.map(|times| figure(times, row.calls));
-        self.print(row, &figures);
+        let [port, rust, unfolded, copy, mut alloc] = times.map(|times| figure(times, row.calls));
+        if row.allocated == 0 {
+            alloc = Figure::default();
+        }
+        self.print(row, &Figures { port, rust, unfolded, copy, alloc });
     }
 
-    fn print(&mut self, row: &Row, figures: &[Figure; 4]) {
-        let [port, rust, copy, alloc] = *figures;
+    fn print(&mut self, row: &Row, figures: &Figures) {
+        let Figures { port, rust, unfolded, copy, alloc } = figures;
         let unit = if row.calls == 1 { "Mb/s" } else { "ns" };
         let show = |time: f64| match row.calls {
             1 => format!("{:>10.0}", row.bases as f64 * 1e3 / time),
             _ => format!("{time:>10.1}"),
         };
         let times = [port.best, port.median, rust.best, rust.median, copy.best].map(show).concat();
-        let alloc_time = if row.allocated == 0 { 0.0 } else { alloc.best };
         let share =
-            if row.allocated == 0 { "-".to_string() } else { format!("{:.1}%", 100.0 * alloc_time / rust.best) };
-        let ratios = [rust.best, copy.best, rust.best - alloc_time].map(|of| port.best / of);
-        println!("{:36}{unit:>5}{times}{share:>7}{}", row.name, ratios.map(|ratio| format!("{ratio:>9.2}")).concat());
+            if row.allocated == 0 { "-".to_string() } else { format!("{:.1}%", 100.0 * alloc.best / rust.best) };
+        let of = [rust.best, copy.best, rust.best - alloc.best, unfolded.best];
+        let ratios = of.map(|time| if time > 0.0 { port.best / time } else { 0.0 });
+        let shown = ratios.map(|ratio| if ratio > 0.0 { format!("{ratio:>9.2}") } else { String::new() }).concat();
+        println!("{:36}{unit:>5}{times}{share:>7}{shown}", row.name);
         let sizes = [row.calls, row.bases, row.copied, row.allocated].map(|size| size.to_string());
-        let times = [port.best, port.median, rust.best, rust.median, copy.best, copy.median, alloc_time];
-        let times = times.map(|time| format!("{time:.2}"));
+        let all = [port, rust, copy].map(|figure| [figure.best, figure.median]).concat();
+        let times = [all, vec![alloc.best, unfolded.best, unfolded.median]].concat();
+        let times: Vec<String> = times.iter().map(|time| format!("{time:.2}")).collect();
         let ratios = ratios.map(|ratio| format!("{ratio:.4}"));
         let fields = [sizes.join("\t"), times.join("\t"), ratios.join("\t")].join("\t");
         writeln!(self.table, "{}\t{fields}", row.name).expect("a String takes text");
@@ -149,6 +174,9 @@ fn clock(work: &mut dyn FnMut()) -> f64 {
 }
 
 fn figure(mut times: Vec<f64>, calls: usize) -> Figure {
+    if times.is_empty() {
+        return Figure::default();
+    }
     times.sort_by(f64::total_cmp);
     Figure { best: times[0] / calls as f64, median: times[times.len() / 2] / calls as f64 }
 }
@@ -170,14 +198,30 @@ fn allocate(size: usize, calls: usize) {
     }
 }
 
-/// A pseudo-random text over some symbols.
-pub fn text(symbols: &[u8], len: usize) -> Vec<u8> {
+/// Pseudo-random numbers, the same in every run.
+fn numbers() -> impl FnMut() -> usize {
     let mut state = 0x9E37_79B9_7F4A_7C15u64;
-    let mut next = || {
+    move || {
         state ^= state << 13;
         state ^= state >> 7;
         state ^= state << 17;
-        symbols[(state >> 33) as usize % symbols.len()]
-    };
-    (0..len).map(|_| next()).collect()
+        (state >> 33) as usize
+    }
+}
+
+/// A pseudo-random text over some symbols.
+pub fn text(symbols: &[u8], len: usize) -> Vec<u8> {
+    let mut next = numbers();
+    (0..len).map(|_| symbols[next() % symbols.len()]).collect()
+}
+
+/// The text soft-masked: runs of 100 to 500 symbols, every other one of them in lowercase.
+pub fn soft_masked(text: &[u8]) -> Vec<u8> {
+    let (mut next, mut found, mut at) = (numbers(), text.to_ascii_uppercase(), 0);
+    while at < found.len() {
+        let from = found.len().min(at + 100 + next() % 401);
+        at = found.len().min(from + 100 + next() % 401);
+        found[from..at].make_ascii_lowercase();
+    }
+    found
 }
