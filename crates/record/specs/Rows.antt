@@ -289,6 +289,12 @@ rows =
     ∷ codes Dna3bit folding "tnryux" gives bytes (3 ∷ 4 ∷ 5 ∷ 6 ∷ 7 ∷ 0xff ∷ [])
     ∷ codes DnaIupac folding "nacmv" gives bytes (0 ∷ 1 ∷ 2 ∷ 3 ∷ 15 ∷ [])
     ∷ codes Protein folding "amk*j." gives bytes (0 ∷ 10 ∷ 8 ∷ 20 ∷ 28 ∷ 23 ∷ [])
+    -- just a to z: the bytes before a and behind z, the members that are no letters and the uppercase letters stand for themselves
+    ∷ codes Protein folding "az" gives bytes (0 ∷ 26 ∷ [])
+    ∷ codes Protein folding "`{-JMN" gives bytes (0xff ∷ 0xff ∷ 22 ∷ 28 ∷ 10 ∷ 11 ∷ [])
+    ∷ guess folding "acgz" gives kind Protein
+    ∷ guess folding "acg{" gives kind Ascii
+    ∷ guess folding "acg`" gives kind Ascii
     -- it has no effect in Ascii and Unknown
     ∷ codes Ascii folding "az" gives bytes (0x61 ∷ 0x7a ∷ [])
     ∷ codes Unknown folding "az" gives bytes (0x61 ∷ 0x7a ∷ [])
