@@ -25,7 +25,7 @@ use Rattle.alphabet.specs.declared.kind.Named.{Named}
 use Rattle.alphabet.specs.declared.guesser.AlphabetGuesser.{AlphabetGuesser}
 use Rattle.alphabet.specs.declared.guesser.GuesserUpdated.{GuesserUpdated}
 use Rattle.alphabet.specs.declared.guesser.Guessed.{Guessed}
-use Rattle.alphabet.proofs.Folding.{folded-append, folded-bytes}
+use Rattle.alphabet.proofs.Laws.{folded-append, folded-bytes}
 use Rattle.alphabet.proofs.Turns.{entries-folded}
 use Rattle.alphabet.proofs.Masks.{masked-append, masked-le, masked-sound, zeros-lt, guess-holds, holds-each}
 

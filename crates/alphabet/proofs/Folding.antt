@@ -1,16 +1,13 @@
--- Laws of folding: the byte that a byte stands for, a text by the choice, and what the choice leaves as it is.
-use mathlib.Core.Path.{_≡_, refl, sym, ap, ap₂, _∙_, subst}
+-- Laws of folding one byte: the byte that it stands for, and how a base is told.
+use mathlib.Core.Path.{_≡_, refl, sym, ap, _∙_}
 use mathlib.Core.Bool.{Bool, true, false, cond, not, _||_, _&&_}
-use mathlib.Core.List.{List, [], _∷_, _++_, map}
-use Prim.Native.Nat.{ℕ, zero, suc, _-_, _<_, _≤_}
+use Prim.Native.Nat.{ℕ, _-_, _<_, _≤_}
 use native.Mathlib.Omega.{arith}
 use borrow.Author.Tests.{leb-true, le-leb, lt-ltb}
 use lib.Bits.{bitAnd, and-mask}
 use lib.Dec.{T, leb, ltb, eqb}
-use lib.ListN.{length, drop}
-use Rattle.bits.specs.Tables.{at, Bytes}
 use Rattle.bits.proofs.Computed.{below}
-use Rattle.alphabet.specs.Symbols.{lowercase, upper, canon, folded}
+use Rattle.alphabet.specs.Symbols.{lowercase, upper, canon}
 use Rattle.alphabet.specs.Bases.{base}
 
 -- ---- a byte
@@ -99,52 +96,6 @@ module _ (fold : Bool) where
       go : (f : Bool) → canon f (canon f v) ≡ canon f v
       go true = upper-upper v
       go false = refl
-
--- ---- a text
-
-map-length : (f : ℕ → ℕ) (text : List ℕ) → length (map f text) ≡ length text
-map-length f [] = refl
-map-length f (v ∷ text) = ap suc (map-length f text)
-
-map-at : (f : ℕ → ℕ) (text : List ℕ) (i : ℕ) → f 0 ≡ 0 → at (map f text) i ≡ f (at text i)
-map-at f [] i z = sym z
-map-at f (v ∷ text) zero z = refl
-map-at f (v ∷ text) (suc i) z = map-at f text i z
-
-map-append : (f : ℕ → ℕ) (a b : List ℕ) → map f (a ++ b) ≡ map f a ++ map f b
-map-append f [] b = refl
-map-append f (v ∷ a) b = ap (λ (l : List ℕ). f v ∷ l) (map-append f a b)
-
--- a function that takes each byte to what it stands for takes the text to the folded one
-pub map-folded : (fold : Bool) (f : ℕ → ℕ) → ((v : ℕ) → f v ≡ canon fold v) → (text : List ℕ) → map f text ≡ folded fold text
-map-folded true f e [] = refl
-map-folded true f e (v ∷ text) = ap₂ (λ (x : ℕ) (l : List ℕ). x ∷ l) (e v) (map-folded true f e text)
-map-folded false f e [] = refl
-map-folded false f e (v ∷ text) = ap₂ (λ (x : ℕ) (l : List ℕ). x ∷ l) (e v) (map-folded false f e text)
-
-map-drop : (f : ℕ → ℕ) (n : ℕ) (text : List ℕ) → map f (drop n text) ≡ drop n (map f text)
-map-drop f zero text = refl
-map-drop f (suc n) [] = refl
-map-drop f (suc n) (v ∷ text) = map-drop f n text
-
-pub folded-drop : (fold : Bool) (n : ℕ) (text : List ℕ) → folded fold (drop n text) ≡ drop n (folded fold text)
-folded-drop true n text = map-drop upper n text
-folded-drop false n text = refl
-
-pub length-folded : (fold : Bool) (text : List ℕ) → length (folded fold text) ≡ length text
-length-folded true text = map-length upper text
-length-folded false text = refl
-
-pub at-folded : (fold : Bool) (text : List ℕ) (i : ℕ) → at (folded fold text) i ≡ canon fold (at text i)
-at-folded true text i = map-at upper text i (upper-below 0 (omega arith))
-at-folded false text i = refl
-
-pub folded-append : (fold : Bool) (a b : List ℕ) → folded fold (a ++ b) ≡ folded fold a ++ folded fold b
-folded-append true a b = map-append upper a b
-folded-append false a b = refl
-
-pub folded-bytes : (fold : Bool) (text : List ℕ) → Bytes text → Bytes (folded fold text)
-folded-bytes fold text bytes i = subst (λ (n : ℕ). n < 256) (sym (at-folded fold text i)) (canon-lt fold (at text i) (bytes i))
 
 -- ---- a base, told by all bits but the one in which the two cases differ
 

@@ -1,21 +1,21 @@
 -- The laws of symbols and codes that the crates above cite. They open no definition of this crate: what they know of an alphabet stands here and in Calls.
-use mathlib.Core.Path.{_≡_, refl, sym, ap, subst, _∙_}
+use mathlib.Core.Path.{_≡_, refl, sym, ap, ap₂, subst, _∙_}
 use mathlib.Core.Bool.{Bool, true, false, not, _||_, _&&_, true≢false}
-use mathlib.Core.List.{List, _++_, map}
+use mathlib.Core.List.{List, [], _∷_, _++_, map, map-append}
 use mathlib.Core.Logic.{_⊎_, inl, inr}
 use Prim.Native.Char.{code as ascii}
-use Prim.Native.Nat.{ℕ, _+_, _^_, _≤_, _<_}
+use Prim.Native.Nat.{ℕ, zero, suc, _+_, _^_, _≤_, _<_}
 use native.Mathlib.Nat.{pow-le-pow-right}
 use native.Mathlib.Omega.{arith}
 use borrow.Author.Tests.{ltb-true, lt-ltb, eq-eqb, ne-eqb, eqb-true}
 use lib.Dec.{T, eqb, ltb, eqb→eq, lit≤, lit<}
-use lib.ListN.{length}
+use lib.ListN.{length, drop, length-map}
 use Rattle.bits.specs.Tables.{at, Bytes, bytesOf}
 use Rattle.bits.proofs.Computed.{below, T-true, and-true, and-false}
 use Rattle.alphabet.specs.declared.kind.AlphabetType.{AlphabetType}
 use Rattle.alphabet.specs.declared.kind.AlphabetType.the-variants.{Dna2bit, Dna3bit, DnaIupac, Protein, Ascii, Unknown}
 use Rattle.alphabet.specs.Symbols.{coded, dna2bit, dna3bit, dnaIupac, protein, symbolOf, codeOf, among, found, Coding, listed, plain, coding, checkSymbols}
-use Rattle.alphabet.specs.Symbols.{canon, folded, folds, through, codingBy}
+use Rattle.alphabet.specs.Symbols.{upper, canon, folded, folds, through, codingBy}
 use Rattle.alphabet.specs.Bases.{base}
 use Rattle.alphabet.proofs.Folding as folding
 use Rattle.alphabet.proofs.Pairs.{found-none, found-among, found-back, found-fits, among-byte, symbols-apart, codes-apart}
@@ -214,6 +214,44 @@ members fold =
       of-unknown = as-it-is;
     }
 
+-- ---- a text by the choice
+
+map-at : (f : ℕ → ℕ) (text : List ℕ) (i : ℕ) → f 0 ≡ 0 → at (map f text) i ≡ f (at text i)
+map-at f [] i z = sym z
+map-at f (v ∷ text) zero z = refl
+map-at f (v ∷ text) (suc i) z = map-at f text i z
+
+-- a function that takes each byte to what it stands for takes the text to the folded one
+pub map-folded : (fold : Bool) (f : ℕ → ℕ) → ((v : ℕ) → f v ≡ canon fold v) → (text : List ℕ) → map f text ≡ folded fold text
+map-folded true f e [] = refl
+map-folded true f e (v ∷ text) = ap₂ (λ (x : ℕ) (l : List ℕ). x ∷ l) (e v) (map-folded true f e text)
+map-folded false f e [] = refl
+map-folded false f e (v ∷ text) = ap₂ (λ (x : ℕ) (l : List ℕ). x ∷ l) (e v) (map-folded false f e text)
+
+map-drop : (f : ℕ → ℕ) (n : ℕ) (text : List ℕ) → map f (drop n text) ≡ drop n (map f text)
+map-drop f zero text = refl
+map-drop f (suc n) [] = refl
+map-drop f (suc n) (v ∷ text) = map-drop f n text
+
+pub folded-drop : (fold : Bool) (n : ℕ) (text : List ℕ) → folded fold (drop n text) ≡ drop n (folded fold text)
+folded-drop true n text = map-drop upper n text
+folded-drop false n text = refl
+
+pub length-folded : (fold : Bool) (text : List ℕ) → length (folded fold text) ≡ length text
+length-folded true text = length-map text upper
+length-folded false text = refl
+
+pub at-folded : (fold : Bool) (text : List ℕ) (i : ℕ) → at (folded fold text) i ≡ canon fold (at text i)
+at-folded true text i = map-at upper text i (folding.upper-below 0 (omega arith))
+at-folded false text i = refl
+
+pub folded-append : (fold : Bool) (a b : List ℕ) → folded fold (a ++ b) ≡ folded fold a ++ folded fold b
+folded-append true a b = map-append upper a b
+folded-append false a b = refl
+
+pub folded-bytes : (fold : Bool) (text : List ℕ) → Bytes text → Bytes (folded fold text)
+folded-bytes fold text bytes i = subst (λ (n : ℕ). n < 256) (sym (at-folded fold text i)) (folding.canon-lt fold (at text i) (bytes i))
+
 -- ---- what the choice changes, and what it leaves
 
 -- in a list each byte stands for itself
@@ -249,13 +287,9 @@ taken fold k =
       once-only = λ v. itself k (f (coding k .canon (f v))) ∙ ap f (itself k (f v)) ∙ folding.canon-canon (fold && folds k) v ∙ sym (itself k (f v));
     }
 
--- without folding all is as before
-pub unfolded : (k : AlphabetType) → codingBy false k ≡ coding k
-unfolded k = refl
-
 -- the symbols that a text's bytes stand for: the uppercased text where the alphabet folds and the caller chose so, else the text itself
 pub text-stands : (fold : Bool) (k : AlphabetType) (text : List ℕ) → map (codingBy fold k .canon) text ≡ folded (fold && folds k) text
-text-stands fold k text = folding.map-folded (fold && folds k) (codingBy fold k .canon) (taken fold k .stands) text
+text-stands fold k text = map-folded (fold && folds k) (codingBy fold k .canon) (taken fold k .stands) text
 
 -- in every alphabet a byte is taken as what it stands for is: Ascii and Unknown hold a letter in either case
 pub member-folded : (fold : Bool) (k : AlphabetType) (v : ℕ) → coding k .member (canon fold v) ≡ codingBy fold k .member v
@@ -266,19 +300,6 @@ member-folded true DnaIupac v = refl
 member-folded true Protein v = refl
 member-folded true Ascii v = members false .of-ascii (canon true v) ∙ folding.upper-below-256 v ∙ sym (members false .of-ascii v)
 member-folded true Unknown v = members false .of-unknown (canon true v) ∙ folding.upper-below-256 v ∙ sym (members false .of-unknown v)
-
--- texts by the choice
-pub length-folded : (fold : Bool) (text : List ℕ) → length (folded fold text) ≡ length text
-length-folded = folding.length-folded
-
-pub at-folded : (fold : Bool) (text : List ℕ) (i : ℕ) → at (folded fold text) i ≡ canon fold (at text i)
-at-folded = folding.at-folded
-
-pub folded-append : (fold : Bool) (a b : List ℕ) → folded fold (a ++ b) ≡ folded fold a ++ folded fold b
-folded-append = folding.folded-append
-
-pub folded-bytes : (fold : Bool) (text : List ℕ) → Bytes text → Bytes (folded fold text)
-folded-bytes = folding.folded-bytes
 
 -- ---- assigned codes: no symbol has two, and those of Protein end at 28
 

@@ -16,8 +16,7 @@ use Rattle.alphabet.specs.declared.kind.AlphabetType.{AlphabetType}
 use Rattle.alphabet.specs.declared.kind.AlphabetType.the-variants.{Dna2bit, Dna3bit, DnaIupac, Protein, Ascii, Unknown}
 use Rattle.alphabet.specs.Symbols.{coding, canon, folded, codingBy}
 use Rattle.alphabet.specs.Guess.{order, isSet, holders, maskOf, masked, lowest, guessOf, holdsAll, firstHolding}
-use Rattle.alphabet.proofs.Folding.{folded-bytes}
-use Rattle.alphabet.proofs.Laws.{members, member-folded}
+use Rattle.alphabet.proofs.Laws.{members, member-folded, folded-bytes}
 
 -- ---- bits
 

@@ -16,7 +16,8 @@ use Rattle.bits.specs.Tables.{tabulate, at, Bytes}
 use Rattle.bits.proofs.Tabulated.{length-tabulate, getD-tabulate, is-tabulate, tabulate-ext, front-more, replicate-tabulate, set-tabulate}
 use Rattle.alphabet.specs.Symbols.{symbolOf, among, found, canon, folded, upper, foldedEntries}
 use Rattle.alphabet.specs.Guess.{maskOf, masked}
-use Rattle.alphabet.proofs.Folding.{upper-below, upper-above, upper-between, canon-lt, at-folded, length-folded}
+use Rattle.alphabet.proofs.Folding.{upper-below, upper-above, upper-between, canon-lt}
+use Rattle.alphabet.proofs.Laws.{at-folded, length-folded}
 use Rattle.alphabet.proofs.Masks.{masked-ascii}
 
 -- ---- a table filled from a list, read from its end

@@ -186,8 +186,8 @@ fn scan(mask: u8, fold: bool, sequence: &[u8]) -> u8
     scan_chunks(mask, fold, &sequence[start..])
 }
 
-// The guess for a whole text, by the caller's choice to fold: `new`, `update` and `guess` in one. It scans by itself, so that `update` has one caller beyond this
-// crate and may be laid into it: a short text costs less than the handing over of a state.
+// The guess for a whole text, by the caller's choice to fold: `new`, `update` and `guess` in one. No state is handed from one to the next, since that would cost a
+// short text more than its scan does.
 pub fn guess_alphabet(fold: bool, sequence: &[u8]) -> AlphabetType
     ensures { λ r. ⌜ r ≡ guessOf fold (now (sequence .entry)) ⌝ }
 {

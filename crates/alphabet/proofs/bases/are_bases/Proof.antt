@@ -11,7 +11,8 @@ use Rattle.bits.specs.Tables.{at}
 use Rattle.alphabet.specs.Symbols.{folded}
 use Rattle.alphabet.specs.Bases.{base, Bases}
 use Rattle.bits.proofs.Computed.{both-true}
-use Rattle.alphabet.proofs.Folding.{at-folded, base-bits}
+use Rattle.alphabet.proofs.Folding.{base-bits}
+use Rattle.alphabet.proofs.Laws.{at-folded}
 use Rattle.alphabet.proofs.bases.are_bases.Statement.{statement}
 use Rattle.alphabet.proofs.bases.are_bases.Tie as tie
 

@@ -5,7 +5,7 @@ use native.Mathlib.Omega.{arith}
 use borrow.Author.Needs.{needs}
 use lib.ListN.{length}
 use Rattle.alphabet.specs.Symbols.{folded}
-use Rattle.alphabet.proofs.Folding.{length-folded}
+use Rattle.alphabet.proofs.Laws.{length-folded}
 use Rattle.alphabet.proofs.Runs.{masked-run}
 use Rattle.alphabet.proofs.guesser.pass_alike.Statement.{statement}
 use Rattle.alphabet.proofs.guesser.pass_alike.Tie as tie

@@ -9,7 +9,7 @@ use lib.Seq.{take-all}
 use Rattle.alphabet.specs.Symbols.{folded}
 use Rattle.alphabet.specs.Bases.{Run}
 use Rattle.alphabet.specs.Guess.{masked}
-use Rattle.alphabet.proofs.Folding.{length-folded, folded-drop}
+use Rattle.alphabet.proofs.Laws.{length-folded, folded-drop}
 use Rattle.alphabet.proofs.Runs.{masked-run}
 use Rattle.alphabet.proofs.Turns.{scan-done}
 use Rattle.alphabet.proofs.guesser.scan.Statement.{statement}

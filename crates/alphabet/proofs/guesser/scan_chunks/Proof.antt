@@ -9,7 +9,7 @@ use lib.ListN.{length, drop}
 use Rattle.bits.specs.Tables.{at, tabulate}
 use Rattle.alphabet.specs.Symbols.{canon, folded}
 use Rattle.alphabet.specs.Guess.{maskOf, masked}
-use Rattle.alphabet.proofs.Folding.{length-folded, folded-bytes}
+use Rattle.alphabet.proofs.Laws.{length-folded, folded-bytes}
 use Rattle.alphabet.proofs.Turns.{scan-more, scan-done, scan-break}
 use Rattle.alphabet.proofs.guesser.scan_chunks.Statement.{statement}
 use Rattle.alphabet.proofs.guesser.scan_chunks.Tie as tie

@@ -9,7 +9,7 @@ use Rattle.alphabet.specs.declared.guesser.GuesserUpdated.the-variants.{
 use Rattle.alphabet.specs.Symbols.{folded}
 use Rattle.alphabet.specs.Guess.{masked, soundGuesser, guesserUpdateAt}
 use Rattle.alphabet.specs.Answers.{guesserUpdatedReply, guesserUpdateTold}
-use Rattle.alphabet.proofs.Folding.{folded-bytes}
+use Rattle.alphabet.proofs.Laws.{folded-bytes}
 use Rattle.alphabet.proofs.Masks.{masked-ascii}
 use Rattle.alphabet.proofs.Calls.{sound-range, update-sound, update-unsound, update-whole}
 use Rattle.alphabet.proofs.guesser.AlphabetGuesser.update.Statement.{statement}
