@@ -1,60 +1,82 @@
 -- One law for each turn of this crate's loops.
-use mathlib.Core.Path.{_≡_, refl, sym, ap, ap₂, _∙_}
-use mathlib.Core.Bool.{Bool, true, false, _||_}
+use mathlib.Core.Path.{_≡_, refl, sym, ap, _∙_}
+use mathlib.Core.Bool.{Bool, true, false, cond, _||_}
 use mathlib.Core.List.{List, [], _∷_, map}
 use mathlib.Core.Logic.{_⊎_, inl, inr}
 use Prim.Native.Nat.{ℕ, suc, _+_, _-_, _<_, _≤_}
 use native.Mathlib.Decide.{decLt}
 use native.Mathlib.Numerals.{add-one}
 use native.Mathlib.Omega.{arith}
-use borrow.Author.Tests.{eq-eqb, ne-eqb}
+use borrow.Author.Tests.{eqb-true, eqb-false, eq-eqb, ne-eqb}
 use lib.Bits.{bitAnd}
 use lib.Dec.{eqb}
 use lib.ListN.{length, getD, set, drop, replicate, length-set, drop-of-length-le}
-use lib.Seq.{drop-cons, drop-length, getD-drop, set-out, getD-set-other}
+use lib.Seq.{drop-cons, drop-length, getD-drop, getD-set-other}
 use Rattle.bits.specs.Tables.{tabulate, at, Bytes}
-use Rattle.bits.proofs.Tabulated.{length-tabulate, getD-tabulate, is-tabulate, tabulate-ext, front-more, replicate-tabulate, set-tabulate}
+use Rattle.bits.proofs.Tabulated.{length-tabulate, getD-tabulate, is-tabulate, tabulate-ext, front-more, replicate-tabulate, with-at, set-tabulate}
 use Rattle.alphabet.specs.Symbols.{symbolOf, among, found, canon, folded, upper, foldedEntries}
 use Rattle.alphabet.specs.Guess.{maskOf, masked}
 use Rattle.alphabet.proofs.Folding.{upper-below, upper-above, upper-between, canon-lt}
 use Rattle.alphabet.proofs.Laws.{at-folded, length-folded}
 use Rattle.alphabet.proofs.Masks.{masked-ascii}
 
--- ---- a table filled from a list, read from its end
+-- ---- a table filled from a list, read from its end: place j is for the key `keyOf j`, and no two places for one key
 
-module _ (n none : ℕ) (key value : List ℕ → ℕ) (pairs : List (List ℕ)) where
-  -- nothing is stored yet
-  pub fill-none : replicate n none ≡ tabulate n (found key value none (drop (length pairs) pairs))
-  unfolding found
-  fill-none = replicate-tabulate n none ∙ sym (ap (λ (l : List (List ℕ)). tabulate n (found key value none l)) (drop-length pairs))
-
+module _ (n none : ℕ) (key value : List ℕ → ℕ) (keyOf : ℕ → ℕ) (apart : (j k : ℕ) → keyOf j ≡ keyOf k → j ≡ k) (pairs : List (List ℕ)) where
   abbrev pub Filled : ℕ → List ℕ → Type 0
-  Filled i table = table ≡ tabulate n (found key value none (drop i pairs))
+  Filled i table = table ≡ tabulate n (λ j. found key value none (drop i pairs) (keyOf j))
 
-  -- the pair before i is stored, at its key k
-  pub fill-more : (table : List ℕ) (i k : ℕ) → 0 < i → i ≤ length pairs → k ≡ key (getD pairs (i - 1) []) → Filled i table
-      → Filled (i - 1) (set table k (value (getD pairs (i - 1) [])))
+  -- nothing is stored yet
+  pub fill-none : Filled (length pairs) (replicate n none)
   unfolding found
-  fill-more table i k some h q e =
+  fill-none =
+      replicate-tabulate n none
+      ∙ sym (ap (λ (l : List (List ℕ)). tabulate n (λ j. found key value none l (keyOf j))) (drop-length pairs))
+
+  -- the pair before i counts, wherever its key has a place
+  counted : (table : List ℕ) (i : ℕ) → 0 < i → i ≤ length pairs → (let p = getD pairs (i - 1) [] in
+      table ≡ tabulate n (λ j. cond (eqb (keyOf j) (key p)) (value p) (found key value none (drop i pairs) (keyOf j)))) → Filled (i - 1) table
+  unfolding found
+  counted table i some h e =
       let p : List ℕ = getD pairs (i - 1) [] in
       let up : suc (i - 1) ≡ i = omega arith in
       let less : i - 1 < length pairs = omega arith in
-      ap₂ (λ (t : List ℕ) (x : ℕ). set t x (value p)) e q
-      ∙ set-tabulate n (found key value none (drop i pairs)) (key p) (value p)
-      ∙ ap (λ (j : ℕ). tabulate n (found key value none (p ∷ drop j pairs))) (sym up)
-      ∙ sym (ap (λ (l : List (List ℕ)). tabulate n (found key value none l)) (drop-cons pairs (i - 1) [] less))
+      e
+      ∙ ap (λ (m : ℕ). tabulate n (λ j. found key value none (p ∷ drop m pairs) (keyOf j))) (sym up)
+      ∙ sym (ap (λ (l : List (List ℕ)). tabulate n (λ j. found key value none l (keyOf j))) (drop-cons pairs (i - 1) [] less))
 
-  -- a pair whose key lies past the table needs no store
-  pub fill-past : (table : List ℕ) (i k : ℕ) → 0 < i → i ≤ length pairs → k ≡ key (getD pairs (i - 1) []) → n ≤ k → Filled i table → Filled (i - 1) table
-  fill-past table i k some h q past e =
-      let len : length table ≡ n = ap length e ∙ length-tabulate n (found key value none (drop i pairs)) in
-      sym (set-out table k (value (getD pairs (i - 1) [])) (omega arith)) ∙ fill-more table i k some h q e
+  -- it is stored at its key's place k
+  pub fill-more : (table : List ℕ) (i k : ℕ) → 0 < i → i ≤ length pairs → keyOf k ≡ key (getD pairs (i - 1) []) → Filled i table
+      → Filled (i - 1) (set table k (value (getD pairs (i - 1) [])))
+  fill-more table i k some h q e =
+      let p : List ℕ = getD pairs (i - 1) [] in
+      let f : ℕ → ℕ = λ j. found key value none (drop i pairs) (keyOf j) in
+      counted (set table k (value p)) i some h
+      (ap (λ (t : List ℕ). set t k (value p)) e
+      ∙ set-tabulate n f k (value p)
+      ∙ tabulate-ext n (with-at f k (value p)) _ (λ j l. ap (λ (b : Bool). cond b (value p) (f j)) (same j ∙ ap (eqb (keyOf j)) q)))
+    where
+      same : (j : ℕ) → eqb j k ≡ eqb (keyOf j) (keyOf k)
+      same j = go (eqb j k) refl
+        where
+          go : (b : Bool) → eqb j k ≡ b → b ≡ eqb (keyOf j) (keyOf k)
+          go true e = sym (eq-eqb (keyOf j) (keyOf k) (ap keyOf (eqb-true j k e)))
+          go false e = sym (ne-eqb (keyOf j) (keyOf k) (λ q. eqb-false j k e (apart j k q)))
+
+  -- a pair whose key has no place in the table needs no store
+  pub fill-past : (table : List ℕ) (i : ℕ) → 0 < i → i ≤ length pairs → ((j : ℕ) → j < n → keyOf j ≡ key (getD pairs (i - 1) []) → ⊥) → Filled i table
+      → Filled (i - 1) table
+  fill-past table i some h past e =
+      let p : List ℕ = getD pairs (i - 1) [] in
+      let f : ℕ → ℕ = λ j. found key value none (drop i pairs) (keyOf j) in
+      counted table i some h
+      (e ∙ tabulate-ext n f _ (λ j l. ap (λ (b : Bool). cond b (value p) (f j)) (sym (ne-eqb (keyOf j) (key p) (past j l)))))
 
   -- no pair is left
-  pub fill-done : (table : List ℕ) (i : ℕ) → i ≤ 0 → Filled i table → table ≡ tabulate n (found key value none pairs)
+  pub fill-done : (table : List ℕ) (i : ℕ) → i ≤ 0 → Filled i table → table ≡ tabulate n (λ j. found key value none pairs (keyOf j))
   fill-done table i h e =
       let zero′ : i ≡ 0 = omega arith in
-      e ∙ ap (λ (j : ℕ). tabulate n (found key value none (drop j pairs))) zero′
+      e ∙ ap (λ (m : ℕ). tabulate n (λ j. found key value none (drop m pairs) (keyOf j))) zero′
 
 -- ---- a table whose lowercase letters get the entries of their uppercase letters
 

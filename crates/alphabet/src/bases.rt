@@ -36,18 +36,13 @@ fn are_bases(fold: bool, text: &[u8], i: usize) -> bool
     all
 }
 
-// Passes bytes that stand for bases from `start` on, 64 at a time, and stops no later than `end`.
-fn pass_run(fold: bool, text: &[u8], start: usize, end: usize) -> usize
-    ensures { λ r. ⌜ Run (folded fold (now (text .entry))) start end r ⌝ }
+// Passes the bytes that a text begins with while they stand for bases, 64 at a time, and tells how many.
+fn pass_run(fold: bool, text: &[u8]) -> usize
+    ensures { λ r. ⌜ Run (folded fold (now (text .entry))) r ⌝ }
 {
-    let mut i = start;
-    if text.len() < end {
-        return i;
-    }
-    if end < start {
-        return i;
-    }
-    while 64 <= end - i {
+    let n = text.len();
+    let mut i = 0;
+    while 64 <= n - i {
         if !are_bases(fold, text, i) {
             return i;
         }
@@ -57,11 +52,11 @@ fn pass_run(fold: bool, text: &[u8], start: usize, end: usize) -> usize
 }
 
 // The same; how far it goes is free. The choice is a constant at each of the two calls, so that the compiler makes a loop for each.
-pub fn pass_bases(fold: bool, text: &[u8], start: usize, end: usize) -> usize
-    ensures { λ r. ⌜ Run (folded fold (now (text .entry))) start end r ⌝ }
+pub fn pass_bases(fold: bool, text: &[u8]) -> usize
+    ensures { λ r. ⌜ Run (folded fold (now (text .entry))) r ⌝ }
 {
     if fold {
-        return pass_run(true, text, start, end);
+        return pass_run(true, text);
     }
-    pass_run(false, text, start, end)
+    pass_run(false, text)
 }

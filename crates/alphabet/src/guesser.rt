@@ -137,8 +137,8 @@ fn pass_alike(
     requires { ⌜ ((now masks ≡ tabulate 256 (λ v. maskOf (canon fold v))) × ((start ≤ end) × (end ≤ length (now text)))) × (acc ≤ 31) ⌝ }
     ensures { λ r. ⌜ ((start ≤ r) × (r ≤ end)) × (masked acc (drop r (folded fold (now (text .entry)))) ≡ masked acc (drop start (folded fold (now (text .entry))))) ⌝ }
 {
-    let bases = pass_bases(fold, text, start, end);
-    pass_eights(masks, fold, acc, text, bases, end)
+    let bases = pass_bases(fold, &text[start..end]);
+    pass_eights(masks, fold, acc, text, start + bases, end)
 }
 
 // Where the chunk that starts at `at` ends.
@@ -174,16 +174,20 @@ fn scan_chunks(mask: u8, fold: bool, sequence: &[u8]) -> u8
     acc
 }
 
-// The same. The bases that a text begins with are passed before the table of masks is laid out: most texts, and most pieces, have nothing else.
+// The same. The bases that a text begins with are passed before the table of masks is laid out: most texts, and most pieces, have nothing else. The scan by
+// chunks is called at two places, so that it stays a function by itself, and who has nothing else does not pay for the registers that it needs.
 fn scan(mask: u8, fold: bool, sequence: &[u8]) -> u8
     requires { ⌜ (16 ≤ mask) × (mask ≤ 31) ⌝ }
     ensures { λ r. ⌜ r ≡ masked mask (folded fold (now (sequence .entry))) ⌝ }
 {
-    let start = pass_bases(fold, sequence, 0, sequence.len());
+    let start = pass_bases(fold, sequence);
     if sequence.len() <= start {
         return mask;
     }
-    scan_chunks(mask, fold, &sequence[start..])
+    if fold {
+        return scan_chunks(mask, true, &sequence[start..]);
+    }
+    scan_chunks(mask, false, &sequence[start..])
 }
 
 // The guess for a whole text, by the caller's choice to fold: `new`, `update` and `guess` in one. No state is handed from one to the next, since that would cost a

@@ -20,6 +20,7 @@ pub use kind::Named;
 pub use kind::kind_of_number;
 pub use mask::ALPHABET_ORDER;
 pub use refusal::Refusal;
+pub use symbols::FIRST_ENCODED;
 pub use symbols::INVALID_CODE;
 pub use symbols::contains;
 pub use symbols::decoding_array;

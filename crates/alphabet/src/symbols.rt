@@ -5,11 +5,15 @@ use crate::kind::AlphabetType;
 use bits::place;
 ghost use mathlib.Core.Path.{_≡_};
 ghost use mathlib.Core.List.{map};
+ghost use Prim.Native.Nat.{_+_};
 ghost use Rattle.bits.specs.Tables.{tabulate};
-ghost use Rattle.alphabet.specs.Symbols.{symbolOf, codeOf, found, among, coding, codingBy};
+ghost use Rattle.alphabet.specs.Symbols.{symbolOf, codeOf, found, among, InRow, coding, codingBy};
 
 // The encoding table's entry for a byte that is no member.
 pub const INVALID_CODE: u8 = 0xFF;
+
+// The first of the 64 bytes among which all symbols of the four lists stand.
+pub const FIRST_ENCODED: usize = 0x20;
 
 // UCSC's 2bit layout.
 const DNA_2BIT_SYMBOLS: [[u8; 2]; 4] = [[b'T', 0b00], [b'C', 0b01], [b'A', 0b10], [b'G', 0b11]];
@@ -78,16 +82,17 @@ const PROTEIN_SYMBOLS: [[u8; 2]; 29] = [
     [b'J', 0b11100], // L or I
 ];
 
-// The table of each byte's code. The list is read from its end, so that of two pairs with one symbol the first would count.
-fn build_encoding(symbols: &[[u8; 2]]) -> [u8; 256]
-    ensures { λ r. ⌜ r ≡ tabulate 256 (found symbolOf codeOf 0xff (now (symbols .entry))) ⌝ }
+// The codes of the 64 bytes from FIRST_ENCODED on. The list is read from its end, so that of two pairs with one symbol the first would count.
+fn build_encoding(symbols: &[[u8; 2]]) -> [u8; 64]
+    requires { ⌜ InRow (now symbols) ⌝ }
+    ensures { λ r. ⌜ r ≡ tabulate 64 (λ j. found symbolOf codeOf 0xff (now (symbols .entry)) (0x20 + j)) ⌝ }
 {
-    let mut table = [INVALID_CODE; 256];
+    let mut table = [INVALID_CODE; 64];
     let mut i = symbols.len();
     while 0 < i {
         i -= 1;
         let v = place(symbols[i][0]);
-        table[v] = symbols[i][1];
+        table[v - FIRST_ENCODED] = symbols[i][1];
     }
     table
 }
@@ -120,18 +125,18 @@ fn is_listed(symbols: &[[u8; 2]], byte: u8) -> bool
     false
 }
 
-// Each byte at its own place: Ascii's codes.
-fn identity_256() -> [u8; 256]
-    ensures { λ r. ⌜ r ≡ tabulate 256 (λ v. v) ⌝ }
+// The 64 bytes from FIRST_ENCODED on: in Ascii they are their own codes.
+fn identity_64() -> [u8; 64]
+    ensures { λ r. ⌜ r ≡ tabulate 64 (λ j. 0x20 + j) ⌝ }
 {
-    let mut table = [0; 256];
-    for v in 0..256usize {
-        table[v] = v as u8;
+    let mut table = [0; 64];
+    for j in 0..64usize {
+        table[j] = (FIRST_ENCODED + j) as u8;
     }
     table
 }
 
-// The same for the codes 0 to 31: Ascii's symbols.
+// The codes 0 to 31: in Ascii they are their own symbols.
 fn identity_32() -> [u8; 32]
     ensures { λ r. ⌜ r ≡ tabulate 32 (λ c. c) ⌝ }
 {
@@ -142,17 +147,18 @@ fn identity_32() -> [u8; 32]
     table
 }
 
-// The codes of the 256 bytes, a non-member's entry being INVALID_CODE. To be had once per call, not per byte.
-pub fn encoding_array(kind: AlphabetType) -> [u8; 256]
-    ensures { λ r. ⌜ r ≡ tabulate 256 (coding kind .code) ⌝ }
+// The codes of the 64 bytes from FIRST_ENCODED on, a non-member's entry being INVALID_CODE: every symbol of the four packed alphabets is among them. To be had
+// once per call, not per byte.
+pub fn encoding_array(kind: AlphabetType) -> [u8; 64]
+    ensures { λ r. ⌜ r ≡ tabulate 64 (λ j. coding kind .code (0x20 + j)) ⌝ }
 {
     match kind {
         AlphabetType::Dna2bit => build_encoding(&DNA_2BIT_SYMBOLS),
         AlphabetType::Dna3bit => build_encoding(&DNA_3BIT_SYMBOLS),
         AlphabetType::DnaIupac => build_encoding(&DNA_IUPAC_SYMBOLS),
         AlphabetType::Protein => build_encoding(&PROTEIN_SYMBOLS),
-        AlphabetType::Ascii => identity_256(),
-        AlphabetType::Unknown => identity_256(),
+        AlphabetType::Ascii => identity_64(),
+        AlphabetType::Unknown => identity_64(),
     }
 }
 

@@ -13,7 +13,7 @@ use Rattle.bits.specs.Tables.{tabulate, at, Bytes}
 use Rattle.bits.proofs.Tabulated.{getD-tabulate}
 use Rattle.alphabet.specs.declared.kind.AlphabetType.{AlphabetType}
 use Rattle.alphabet.specs.Symbols.{Coding, canon, folded, codingBy}
-use Rattle.alphabet.specs.Bases.{base, Run}
+use Rattle.alphabet.specs.Bases.{base, Bases}
 use Rattle.alphabet.proofs.Laws.{Packed, Plain, lawful, shape, base-member, at-folded}
 use Rattle.packing.specs.declared.first.First.{First}
 use Rattle.packing.specs.Encode.{firstFrom}
@@ -29,14 +29,13 @@ passed-more table text i n p more j h e = go (decLt j i)
         let same : i + (j - i) ≡ j = omega arith in
         more (j - i) (omega arith) (ap (λ (x : ℕ). at table (at text x)) same ∙ e)
 
--- a run of bytes that stand for bases is passed where none of them has the entry FF
-pub passed-bases : (fold : Bool) (table text : List ℕ) (start end r : ℕ) → Usual fold table → Passed table text start → Run (folded fold text) start end r
-    → Passed table text r
-passed-bases fold table text start end r usual p run =
-    let same : start + (r - start) ≡ r = omega (arith, run .from) in
-    let stands : (j : ℕ) → j < r - start → base (canon fold (at text (start + j))) ≡ true =
-    λ j h. ap base (sym (at-folded fold text (start + j))) ∙ run .bases .each j h in
-    subst (λ (x : ℕ). Passed table text x) same (passed-more table text start (r - start) p (λ j h. usual .entry (at text (start + j)) (stands j h)))
+-- n bytes that stand for bases are passed where none of them has the entry FF
+pub passed-bases : (fold : Bool) (table text : List ℕ) (start n : ℕ) → Usual fold table → Passed table text start → Bases (folded fold text) start n
+    → Passed table text (start + n)
+passed-bases fold table text start n usual p bases =
+    let stands : (j : ℕ) → j < n → base (canon fold (at text (start + j))) ≡ true =
+    λ j h. ap base (sym (at-folded fold text (start + j))) ∙ bases .each j h in
+    passed-more table text start n p (λ j h. usual .entry (at text (start + j)) (stands j h))
 
 module _ (A : Coding) where
   -- every byte is a member

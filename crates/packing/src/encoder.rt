@@ -3,11 +3,12 @@ use crate::first::First;
 use crate::first::first_of;
 use crate::run::left_over;
 use crate::run::pack;
+use crate::table::lay_codes;
 use crate::words::pad;
 use alphabet::AlphabetType;
+use alphabet::INVALID_CODE;
 use alphabet::Named;
 use alphabet::Refusal;
-use alphabet::encoding_array;
 use alphabet::fold_entries;
 use alphabet::has_effect;
 use alphabet::kind_of_number;
@@ -157,7 +158,8 @@ impl SequenceEncoder {
         ensures memory { λ _. ⌜ now (out .exit) ≡ updateMemory self (now (piece .entry)) (now (out .entry)) ⌝ }
     {
         let kind = self.alphabet;
-        let mut table = encoding_array(kind);
+        let mut table = [INVALID_CODE; 256];
+        lay_codes(kind, &mut table);
         fold_entries(has_effect(self.fold, kind), &mut table);
         let answer = self.asked(&table, piece, out.len());
         let Updated::Wrote(_, _) = answer else {

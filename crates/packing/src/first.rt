@@ -67,8 +67,8 @@ fn find_in_chunk(fold: bool, table: &[u8; 256], text: &[u8], start: usize, end: 
     requires { ⌜ ToSearch (now table) (now text) start end × Usual fold (now table) ⌝ }
     ensures { λ r. ⌜ Searched (now (table .entry)) (now (text .entry)) end r ⌝ }
 {
-    let i = pass_bases(fold, text, start, end);
-    find_by_eight(table, text, i, end)
+    let bases = pass_bases(fold, &text[start..end]);
+    find_by_eight(table, text, start + bases, end)
 }
 
 // The place of the first byte whose entry in a table is FF, and the text's length where there is none.

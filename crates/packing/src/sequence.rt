@@ -3,11 +3,12 @@ use crate::first::First;
 use crate::first::first_from;
 use crate::run;
 use crate::run::left_over;
+use crate::table::lay_codes;
 use crate::words::pad;
 use alphabet::AlphabetType;
+use alphabet::INVALID_CODE;
 use alphabet::Named;
 use alphabet::Refusal;
-use alphabet::encoding_array;
 use alphabet::fold_entries;
 use alphabet::has_effect;
 use alphabet::kind_of_number;
@@ -70,7 +71,8 @@ pub fn encode_sequence(alphabet: u64, fold: bool, text: &[u8], out: &mut [u8]) -
     let Named::Kind(kind) = named else {
         return Encoded::Refused(Refusal::NoAlphabet);
     };
-    let mut table = encoding_array(kind);
+    let mut table = [INVALID_CODE; 256];
+    lay_codes(kind, &mut table);
     fold_entries(has_effect(fold, kind), &mut table);
     let answer = asked(kind, fold, &table, text, out.len());
     let Encoded::Wrote(_) = answer else {

@@ -12,7 +12,7 @@ pass-run-requires c κs = search needs
 returns : tie.Need-returns
 returns c =
     let a = c .before .before .before .args in
-    subst (λ (f : Bool). Run (folded f (a .text .now)) (a .start) (a .end) (c .pass-run .result)) (sym (c .before .if1 .taken)) (c .pass-run .ensures)
+    subst (λ (f : Bool). Run (folded f (a .text .now)) (c .pass-run .result)) (sym (c .before .if1 .taken)) (c .pass-run .ensures)
 
 pass-run-requires-2 : tie.Need-pass-run-requires-2
 pass-run-requires-2 c κs = search needs
@@ -20,7 +20,7 @@ pass-run-requires-2 c κs = search needs
 returns-2 : tie.Need-returns-2
 returns-2 c =
     let a = c .before .before .before .args in
-    subst (λ (f : Bool). Run (folded f (a .text .now)) (a .start) (a .end) (c .pass-run2 .result)) (sym (c .before .if1 .left)) (c .pass-run2 .ensures)
+    subst (λ (f : Bool). Run (folded f (a .text .now)) (c .pass-run2 .result)) (sym (c .before .if1 .left)) (c .pass-run2 .ensures)
 
 pub pass-bases-spec : {M : Type 1} → statement M
 pass-bases-spec = tie.close (tie.spec pass-run-requires returns pass-run-requires-2 returns-2)

@@ -1,5 +1,6 @@
 use mathlib.Core.Path.{_≡_, refl, sym, ap, _∙_, subst}
-use Prim.Native.Nat.{ℕ, _+_, _-_, _*_, _%_, _^_, _≤_, _<_, min}
+use mathlib.Core.List.{List}
+use Prim.Native.Nat.{ℕ, _+_, _-_, _*_, _/_, _%_, _^_, _≤_, _<_, min}
 use native.Mathlib.Nat.{add-assoc, add-mul, one-mul, zero-mul, mod-lt, lt-of-lt-of-le}
 use native.Mathlib.Omega.{arith}
 use borrow.Author.Needs.{needs}
@@ -31,7 +32,7 @@ abbrev Head : Type 0
 Head = tie.At-loop Inv-loop μ-loop
 
 abbrev start : Head → tie.Start Inv-loop μ-loop
-start h = h .before .before .before
+start h = h .before .before .before .before
 
 -- how many symbols there are, and the first of the last ones
 abbrev count : Head → ℕ
@@ -47,6 +48,13 @@ stream h = atHand (start h .args .p) (start h .args .a) (start h .args .b) (look
 stream-lt : (h : Head) (k : ℕ) → stream h k < 2
 stream-lt h = hand-lt (start h .args .p) (start h .args .a) (start h .args .b) (looked (start h .args .table .now) (start h .args .text .now))
 
+-- a place as one behind the first of the last ones, and the next
+as-behind : (i f : ℕ) → f ≤ i → i ≡ f + (i - f)
+as-behind i f h = omega arith
+
+one-on : (i f : ℕ) → f ≤ i → i + 1 - f ≡ i - f + 1
+one-on i f h = omega arith
+
 -- the last bits, and how many they are
 few-left : (p n b : ℕ) → (p + n * b) % 8 < 8
 few-left p n b = mod-lt (p + n * b) (lit< tt)
@@ -61,6 +69,15 @@ add-left c =
     let s = c .before in
     omega (arith, product-le (length (s .args .text .now)) (s .args .b) (s .pre .bounded) (s .pre .narrow), s .pre .few)
 
+-- no bits are left
+returns : tie.Need-returns Inv-loop μ-loop
+unfolding word
+returns c =
+    let a = c .before .before .args in
+    let d : List ℕ = looked (a .table .now) (a .text .now) in
+    let none : (a .p + length d * a .b) % 8 ≡ 0 = ap (λ (n : ℕ). (a .p + n * a .b) % 8) (length-map (a .text .now) (at (a .table .now))) ∙ c .if1 .taken in
+    sym (ap (word (atHand (a .p) (a .a) (a .b) d) ((a .p + length d * a .b) / 8 * 8)) none)
+
 least-requires : tie.Need-least-requires Inv-loop μ-loop
 least-requires c κs = search needs
 
@@ -69,7 +86,7 @@ sub-from c = search needs
 
 loop-holds : tie.Need-loop-holds Inv-loop μ-loop
 loop-holds c =
-    let a = c .before .before .args in
+    let a = c .before .before .before .args in
     let n : ℕ = length (a .text .now) in
     let f : ℕ = n - c .least .result in
     let none : (f - f) * a .b ≡ 0 = ap (λ (x : ℕ). x * a .b) (let z : f - f ≡ 0 = omega arith in z) ∙ zero-mul (a .b) in
@@ -103,9 +120,9 @@ loop-again c =
     let few : a .b < 64 = omega arith in
     let small : a .a < 2 ^ 7 = lt-of-lt-of-le (s .pre .small) (pow-mono (let z : a .p ≤ 7 = omega (arith, s .pre .few) in z)) in
     let next : (l .i + 1 - f) * a .b ≡ k * a .b + a .b =
-    ap (λ (x : ℕ). x * a .b) (let z : l .i + 1 - f ≡ k + 1 = omega arith in z) ∙ add-mul k 1 (a .b) ∙ ap (λ (x : ℕ). k * a .b + x) (one-mul (a .b)) in
+    ap (λ (x : ℕ). x * a .b) (one-on (l .i) f (l .inv .1)) ∙ add-mul k 1 (a .b) ∙ ap (λ (x : ℕ). k * a .b + x) (one-mul (a .b)) in
     let place : a .p + l .i * a .b ≡ a .p + f * a .b + k * a .b =
-    ap (λ (x : ℕ). a .p + x * a .b) (let z : l .i ≡ f + k = omega arith in z)
+    ap (λ (x : ℕ). a .p + x * a .b) (as-behind (l .i) f (l .inv .1))
     ∙ ap (λ (x : ℕ). a .p + x) (add-mul f k (a .b))
     ∙ sym (add-assoc (a .p) (f * a .b) (k * a .b)) in
     let digit : d .result % 2 ^ a .b ≡ word (stream h) (a .p + f * a .b + k * a .b) (a .b) =
@@ -140,8 +157,8 @@ cast-result c =
     let below : q < 64 = omega arith in
     omega (arith, c .low .ensures ∙ low-is below (l .acc), low-under (l .acc) q 8 (omega arith))
 
-returns : tie.Need-returns Inv-loop μ-loop
-returns c =
+returns-2 : tie.Need-returns-2 Inv-loop μ-loop
+returns-2 c =
     let h = c .before .before in
     let l = h .loop in
     let s = start h in
@@ -165,6 +182,7 @@ left-over-spec =
     μ-loop
     mul-left
     add-left
+    returns
     least-requires
     sub-from
     loop-holds
@@ -175,4 +193,4 @@ left-over-spec =
     loop-again
     low-requires
     cast-result
-    returns)
+    returns-2)

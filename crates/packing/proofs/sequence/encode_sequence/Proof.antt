@@ -40,18 +40,18 @@ codingOf c = codingBy (start c .args .fold) (kind c)
 abbrev effect : tie.After-fold-entries → tie.After-has-effect
 effect t = t .before .before
 
-abbrev listed : tie.After-fold-entries → tie.After-encoding-array
-listed t = effect t .before
+abbrev listed : tie.After-fold-entries → tie.After-lay-codes
+listed t = effect t .before .before
 
 abbrev naming : tie.After-fold-entries → tie.After-named
-naming t = listed t .before .before
+naming t = listed t .before .before .before
 
 -- the table has the codes that the text is packed by
 codes : (t : tie.After-fold-entries) → t .fold-entries .last .1 .0 ≡ tabulate 256 (codingOf (naming t) .code)
 codes t =
     let e = effect t .has-effect in
-    let l = listed t .encoding-array in
-    codes-folded (start (naming t) .args .fold) (e .result) (kind (naming t)) (l .result) (l .ensures) (e .ensures) (t .fold-entries .ensures)
+    let l = listed t .lay-codes in
+    codes-folded (start (naming t) .args .fold) (e .result) (kind (naming t)) (l .last .1 .0) (l .ensures) (e .ensures) (t .fold-entries .ensures)
 
 -- where it is answered
 abbrev table : tie.After-asked → tie.After-fold-entries
@@ -90,8 +90,11 @@ returns c =
     let a = k .before .before .before .args in
     encode-unknown (a .alphabet) (a .fold) (a .text .now) (a .out .now) _ (sym (k .kind-of-number .ensures .0) ∙ c .enum-told .given .1)
 
-encoding-array-requires : tie.Need-encoding-array-requires
-encoding-array-requires c κs = search needs
+slice-aggregate-lay-codes : tie.Need-slice-aggregate-lay-codes
+slice-aggregate-lay-codes c = search needs
+
+lay-codes-requires : tie.Need-lay-codes-requires
+lay-codes-requires c κs = search needs
 
 has-effect-requires : tie.Need-has-effect-requires
 has-effect-requires c κs = search needs
@@ -164,7 +167,8 @@ encode-sequence-spec =
     enum-known-named
     enum-told
     returns
-    encoding-array-requires
+    slice-aggregate-lay-codes
+    lay-codes-requires
     has-effect-requires
     slice-aggregate-fold-entries
     fold-entries-requires

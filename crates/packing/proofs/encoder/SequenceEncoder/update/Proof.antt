@@ -16,19 +16,19 @@ use Rattle.packing.proofs.encoder.SequenceEncoder.update.Tie as tie
 abbrev effect : tie.After-fold-entries → tie.After-has-effect
 effect f = f .before .before
 
-abbrev listed : tie.After-fold-entries → tie.After-encoding-array
-listed f = effect f .before
+abbrev listed : tie.After-fold-entries → tie.After-lay-codes
+listed f = effect f .before .before
 
 abbrev lent : tie.After-fold-entries → tie.After-shared-slice-known
-lent f = listed f .before .before
+lent f = listed f .before .before .before
 
 -- the table is the state's
 codes : (f : tie.After-fold-entries) → f .fold-entries .last .1 .0 ≡ tabulate 256 (packsBy (lent f .before .args .self) .code)
 codes f =
     let s = lent f .before .args .self in
     let e = effect f .has-effect in
-    let l = listed f .encoding-array in
-    codes-folded (s .fold) (e .result) (s .alphabet) (l .result) (l .ensures) (e .ensures) (f .fold-entries .ensures)
+    let l = listed f .lay-codes in
+    codes-folded (s .fold) (e .result) (s .alphabet) (l .last .1 .0) (l .ensures) (e .ensures) (f .fold-entries .ensures)
 
 -- where it is answered, and before that the folded table, and the entry
 abbrev table : tie.After-asked → tie.After-fold-entries
@@ -55,8 +55,11 @@ wrote t = sym (answered t .asked .ensures) ∙ t .enum-told .given .1
 abbrev width : tie.After-pack-arg → tie.After-bits-per-symbol
 width c = c .before .before .before .before
 
-encoding-array-requires : tie.Need-encoding-array-requires
-encoding-array-requires c κs = search needs
+slice-aggregate-lay-codes : tie.Need-slice-aggregate-lay-codes
+slice-aggregate-lay-codes c = search needs
+
+lay-codes-requires : tie.Need-lay-codes-requires
+lay-codes-requires c κs = search needs
 
 has-effect-requires : tie.Need-has-effect-requires
 has-effect-requires c κs = search needs
@@ -119,7 +122,8 @@ pub update-spec : {M : Type 1} → statement M
 update-spec =
     tie.close
     (tie.spec
-    encoding-array-requires
+    slice-aggregate-lay-codes
+    lay-codes-requires
     has-effect-requires
     slice-aggregate-fold-entries
     fold-entries-requires

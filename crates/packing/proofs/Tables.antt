@@ -1,0 +1,58 @@
+-- Laws of the encoding table that a call lays out.
+use mathlib.Core.Path.{_≡_, refl, sym, ap, ap₂, _∙_}
+use mathlib.Core.Bool.{false}
+use mathlib.Core.List.{List, _++_}
+use mathlib.Core.Logic.{_⊎_, inl, inr}
+use Prim.Native.Nat.{ℕ, _+_, _≤_, _<_}
+use native.Mathlib.Omega.{arith}
+use lib.ListN.{length, take, drop, replicate, length-replicate}
+use lib.Seq.{take-at, drop-at, drop-drop}
+use Rattle.bits.specs.Tables.{tabulate, at}
+use Rattle.bits.specs.Memory.{putAt}
+use Rattle.bits.proofs.Tabulated.{length-tabulate, getD-tabulate, tabulate-ext, tabulate-add, replicate-tabulate}
+use Rattle.alphabet.specs.declared.kind.AlphabetType.{AlphabetType}
+use Rattle.alphabet.specs.Symbols.{coding}
+use Rattle.alphabet.proofs.Laws.{Packed, Plain, shape, row-only}
+
+-- a table that starts as FF has a place for every byte
+pub starts-long : (table : List ℕ) → table ≡ replicate 256 0xff → length table ≡ 256
+starts-long table t = ap length t ∙ length-replicate 256 (let none : ℕ = 0xff in none)
+
+-- a table's entries from place k on, written into a table that holds the others already
+put-between : (f g : ℕ → ℕ) (k m n : ℕ) → ((v : ℕ) → v < k → g v ≡ f v) → ((v : ℕ) → k + m ≤ v → g v ≡ f v)
+    → putAt k (tabulate m (λ j. f (k + j))) (tabulate (k + (m + n)) g) ≡ tabulate (k + (m + n)) f
+unfolding putAt
+put-between f g k m n before behind =
+    let row : List ℕ = tabulate m (λ j. f (k + j)) in
+    let first : List ℕ = tabulate k g in
+    let rest : List ℕ = tabulate n (λ j. g (k + (m + j))) in
+    let parts : (h : ℕ → ℕ) → tabulate (k + (m + n)) h ≡ tabulate k h ++ (tabulate m (λ j. h (k + j)) ++ tabulate n (λ j. h (k + (m + j)))) =
+    λ h. tabulate-add k (m + n) h ∙ ap (λ (l : List ℕ). tabulate k h ++ l) (tabulate-add m n (λ j. h (k + j))) in
+    let old : List ℕ = tabulate m (λ j. g (k + j)) ++ rest in
+    let start : take k (first ++ old) ≡ first = take-at first old k (length-tabulate k g) in
+    let end : drop (k + length row) (first ++ old) ≡ rest =
+    sym (drop-drop (length row) k (first ++ old))
+    ∙ ap (drop (length row)) (drop-at first old k (length-tabulate k g))
+    ∙ drop-at (tabulate m (λ j. g (k + j))) rest (length row) (length-tabulate m (λ j. g (k + j)) ∙ sym (length-tabulate m (λ j. f (k + j)))) in
+    ap (λ (l : List ℕ). take k l ++ (row ++ drop (k + length row) l)) (parts g)
+    ∙ ap₂ (λ (a b : List ℕ). a ++ (row ++ b)) start end
+    ∙ ap₂ (λ (a b : List ℕ). a ++ (row ++ b)) (tabulate-ext k g f before) (tabulate-ext n (λ j. g (k + (m + j))) (λ j. f (k + (m + j))) (λ j h. behind (k + (m + j)) (omega arith)))
+    ∙ sym (parts f)
+
+-- a packed alphabet's row, in a table that starts as FF
+pub row-laid : (k : AlphabetType) (row table : List ℕ) → coding k .width < 8 → row ≡ tabulate 64 (λ j. coding k .code (0x20 + j)) → table ≡ replicate 256 0xff
+    → putAt 0x20 (tabulate 64 (at row)) table ≡ tabulate 256 (coding k .code)
+row-laid k row table narrow r t =
+    let f : ℕ → ℕ = λ j. coding k .code (0x20 + j) in
+    let same : tabulate 64 (at row) ≡ tabulate 64 f =
+    tabulate-ext 64 (at row) f (λ j h. ap (λ (l : List ℕ). at l j) r ∙ getD-tabulate 64 f j 0 h) in
+    ap₂ (putAt 0x20) same (t ∙ replicate-tabulate 256 0xff)
+    ∙ put-between (coding k .code) (λ v. 0xff) 0x20 64 160 (λ v h. sym (row-only k narrow v (inl h))) (λ v h. sym (row-only k narrow v (inr h)))
+
+-- a plain alphabet's bytes are their own codes
+pub bytes-laid : (k : AlphabetType) → 8 ≤ coding k .width → tabulate 256 (λ v. v) ≡ tabulate 256 (coding k .code)
+bytes-laid k wide = tabulate-ext 256 (λ v. v) (coding k .code) (λ v h. go v (shape false k))
+  where
+    go : (v : ℕ) → Packed (coding k) ⊎ Plain (coding k) → v ≡ coding k .code v
+    go v (inl packed) = absurd (omega (arith, packed .five))
+    go v (inr plain) = sym (plain .same-code v)

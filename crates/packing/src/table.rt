@@ -1,0 +1,44 @@
+// The encoding table of a call: for each of the 256 bytes its code, and FF where it is no member.
+use alphabet::AlphabetType;
+use alphabet::FIRST_ENCODED;
+use alphabet::encoding_array;
+ghost use mathlib.Core.Path.{_≡_};
+ghost use Prim.Native.Nat.{_≤_};
+ghost use lib.ListN.{length, replicate};
+ghost use Rattle.bits.specs.Tables.{tabulate, at};
+ghost use Rattle.bits.specs.Memory.{putAt};
+ghost use Rattle.alphabet.specs.Symbols.{coding};
+
+// Each byte at its own place: Ascii's codes.
+fn lay_bytes(table: &mut [u8])
+    requires { ⌜ length (now table) ≡ 256 ⌝ }
+    ensures { λ _. ⌜ now (table .exit) ≡ tabulate 256 (λ v. v) ⌝ }
+{
+    for v in 0..256usize {
+        table[v] = v as u8;
+    }
+}
+
+// The entries of the 64 bytes among which all symbols of a packed alphabet stand.
+fn lay_row(row: &[u8; 64], table: &mut [u8])
+    requires { ⌜ 0x60 ≤ length (now table) ⌝ }
+    ensures { λ _. ⌜ now (table .exit) ≡ putAt 0x20 (tabulate 64 (at (now (row .entry)))) (now (table .entry)) ⌝ }
+{
+    for j in 0..64usize {
+        table[FIRST_ENCODED + j] = row[j];
+    }
+}
+
+// Gives a table that starts as 256 entries of FF an alphabet's codes. The caller makes the table, and it is written where it lies, in a packed alphabet 64 entries of
+// it: handed out by value it would be copied, which a short piece would notice.
+pub fn lay_codes(kind: AlphabetType, table: &mut [u8])
+    requires { ⌜ now table ≡ replicate 256 0xff ⌝ }
+    ensures { λ _. ⌜ now (table .exit) ≡ tabulate 256 (coding kind .code) ⌝ }
+{
+    if 8 <= kind.bits_per_symbol() {
+        lay_bytes(table);
+        return;
+    }
+    let row = encoding_array(kind);
+    lay_row(&row, table);
+}
