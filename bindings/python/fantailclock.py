@@ -30,6 +30,7 @@ bytes release the interpreter's lock: memory that is lent to a call must be left
 
 from __future__ import annotations
 
+import contextlib
 import ctypes
 import enum
 import importlib.machinery
@@ -39,8 +40,10 @@ import mmap
 import operator
 import os
 import pathlib
+import queue
 import struct
 import sys
+import threading
 from typing import TYPE_CHECKING, Any, NamedTuple, Optional, Protocol, SupportsIndex, Tuple, Union
 
 if TYPE_CHECKING:
@@ -873,7 +876,18 @@ class Stream:
 
 
 _LARGE = 1 << 21  # a large page
+_STRETCH = 4 * _LARGE  # so much memory is handed out at a time, ahead of the bases
+_ANEW = 1 << 25  # so many bytes and more come from the system anew; fewer may be memory that was used before
+_POPULATE = 23  # MADV_POPULATE_WRITE, which Linux has from 5.14 on and Python's mmap does not name
 _advise = getattr(ctypes.CDLL(None), "madvise", None) if hasattr(mmap, "MADV_HUGEPAGE") else None
+if _advise is not None:
+    _advise.argtypes = ctypes.c_void_p, ctypes.c_size_t, ctypes.c_int
+
+
+def _units(memory, size):
+    """Of the units of so many bytes that lie whole within memory, the first one's address and the last one's end."""
+    with _Lent(memory, writable=True) as (address, length):
+        return -(-address // size) * size, (address + length) // size * size
 
 
 def _on_large_pages(memory):
@@ -881,9 +895,41 @@ def _on_large_pages(memory):
     by one, takes longer than to fill them. It may decline; nothing but the time depends on it."""
     if _advise is None or len(memory) < 2 * _LARGE:
         return
-    with _Lent(memory, writable=True) as (address, length):
-        first, end = -(-address // _LARGE), (address + length) // _LARGE
-        _advise(ctypes.c_void_p(first * _LARGE), ctypes.c_size_t((end - first) * _LARGE), mmap.MADV_HUGEPAGE)
+    first, end = _units(memory, _LARGE)
+    _advise(first, end - first, mmap.MADV_HUGEPAGE)
+
+
+@contextlib.contextmanager
+def _handed_out(memory):
+    """Has the system hand out long new memory a stretch ahead of the bases, by a thread that ends with the block: to clear
+    pages takes about as long as to fill them, and a second processor can do it meanwhile. Gives a function that is told how
+    many bytes are filled; what it asks for ends at most two stretches behind these, since a source may end early. Nothing but
+    the time depends on it."""
+    if _advise is None or len(memory) < _ANEW or len(os.sched_getaffinity(0)) < 2:
+        yield lambda filled: None
+        return
+    first, end = _units(memory, mmap.PAGESIZE)
+    due, coming = queue.SimpleQueue(), first
+
+    def hand_out():
+        for stretch in iter(due.get, None):
+            _advise(stretch, min(_STRETCH, end - stretch), _POPULATE)
+
+    def filled_to(filled):
+        nonlocal coming
+        while coming < end and coming <= first + filled + _STRETCH:
+            due.put(coming)
+            coming += _STRETCH
+
+    thread = threading.Thread(target=hand_out, name="fantailclock: memory of read()")
+    with contextlib.suppress(RuntimeError):  # where no thread is to be had, pages come as they are written to
+        thread.start()
+    try:
+        yield filled_to
+    finally:
+        due.put(None)
+        if thread.is_alive():
+            thread.join()
 
 
 class Source(Protocol):
@@ -994,10 +1040,12 @@ class StreamingDecoder(io.RawIOBase):
         """Reads bases until the memory is full, the window ends or the source has nothing yet; their count, and the
         answer of the last read."""
         count, answer = 0, 0
-        while count < len(memory):
-            self._open()
-            answer = self._stepped(_calls.stream_read_into, len(memory) - count, memory[count:], self.LONG_CHUNK)
-            if not answer:
-                break
-            count += answer
+        with _handed_out(memory) as filled_to:
+            while count < len(memory):
+                self._open()
+                filled_to(count)
+                answer = self._stepped(_calls.stream_read_into, len(memory) - count, memory[count:], self.LONG_CHUNK)
+                if not answer:
+                    break
+                count += answer
         return count, answer

@@ -119,12 +119,14 @@ class Reads(unittest.TestCase):
             self.assertTrue(io.BufferedReader(decoder()).read() == expected)
 
     def test_all_of_it_into_long_memory(self):
-        file = bytes(range(256)) * 5200  # more bases than two large pages hold bytes
-        expected = fc.decode_covered(Alphabet.Dna2bit, file, 0, 1, len(file) * 4 - 1)
-        for advise in fc._advise, None:
-            with unittest.mock.patch.object(fc, "_advise", advise):
-                decoder = fc.StreamingDecoder.for_window(io.BytesIO(file), Alphabet.Dna2bit, 1, len(file) * 4 - 1)
-                self.assertTrue(decoder.read() == expected)
+        for alphabet, file in (Alphabet.Dna2bit, bytes(range(256)) * 5200), (Alphabet.Ascii, bytes(range(256)) * 140_000):
+            end = len(file) * 8 // alphabet.bits_per_symbol - 1  # of two large pages and more, of new memory and more
+            expected = fc.decode_covered(alphabet, file, 0, 1, end)
+            first, _ = fc.byte_range_for_bases(1, end, alphabet.bits_per_symbol)
+            for advise in fc._advise, None:
+                with unittest.mock.patch.object(fc, "_advise", advise):
+                    decoder = fc.StreamingDecoder.for_window(io.BytesIO(file[first:]), alphabet, 1, end)
+                    self.assertTrue(decoder.read() == expected)
 
     def test_more_than_is_asked_for_at_once(self):
         class Small(fc.StreamingDecoder):

@@ -1,6 +1,6 @@
 """What a call costs, by the extension module and by ctypes, and what ctypes costs by itself: the best of several rounds, in
-nanoseconds. Then windows of 8 and 64 Mi bases by a decoder, with `readinto` of 1 MiB and with `read()`, in milliseconds of the
-thread's own time, in which other work of the machine does not count.
+nanoseconds. Then windows of 8 and 64 Mi bases by a decoder, with `readinto` of 1 MiB and with `read()`, in milliseconds by the
+clock: `read()` has a thread besides, whose time must count.
 
     python3 timing.py            both ways, one after the other
     python3 timing.py WAY        one of them: extension or ctypes
@@ -55,9 +55,9 @@ def streamed(fc, alphabet, text, bases):
             break
         for at, drain in enumerate([readinto, lambda decoder: decoder.read()]):
             decoder = fc.StreamingDecoder.for_window(io.BytesIO(packed), alphabet, 1, bases)
-            begun = time.thread_time()
+            begun = time.perf_counter()
             held = drain(decoder)
-            best[at] = min(best[at], (time.thread_time() - begun) * 1e3)
+            best[at] = min(best[at], (time.perf_counter() - begun) * 1e3)
             del held  # its memory goes back behind the clock
     return best
 
