@@ -903,7 +903,7 @@ def _on_large_pages(memory):
 def _handed_out(memory):
     """Has the system hand out long new memory a stretch ahead of the bases, by a thread that ends with the block: to clear
     pages takes about as long as to fill them, and a second processor can do it meanwhile. Gives a function that is told how
-    many bytes are filled; what it asks for ends at most two stretches behind these, since a source may end early. Nothing but
+    many bytes are filled; what it asks for ends at most two stretches beyond these, since a source may end early. Nothing but
     the time depends on it."""
     if _advise is None or len(memory) < _ANEW or len(os.sched_getaffinity(0)) < 2:
         yield lambda filled: None

@@ -1,13 +1,14 @@
 """What a call costs, by the extension module and by ctypes, and what ctypes costs by itself: the best of several rounds, in
 nanoseconds. Then windows of 8 and 64 Mi bases by a decoder, with `readinto` of 1 MiB and with `read()`, in milliseconds by the
-clock: `read()` has a thread besides, whose time must count.
+clock and of the thread's own time.
 
     python3 timing.py            both ways, one after the other
     python3 timing.py WAY        one of them: extension or ctypes
 
 Ends with status 1 where a plain window of 100 bases costs 3 microseconds or more by the extension, or where `read()` has less
-than half the speed of `readinto`. A window of 64 Mi needs new memory from the system: where that hands out no large pages, its
-times are shown and not held to the limit."""
+than half the speed of `readinto`, by the clock or by the thread's own time: by the clock the thread that `read()` has besides
+counts too, by its own time other work of the machine does not. A window of 64 Mi needs new memory from the system: where that
+hands out no large pages, its times are shown and not held to the limit."""
 
 import io
 import os
@@ -21,6 +22,7 @@ LIMIT = 3000  # nanoseconds for a plain window of 100 bases by the extension
 ROUNDS, MOST_ROUNDS = 15, 150
 WINDOWS = [(0, b"ACGT", 8), (0, b"ACGT", 64), (4, b"acgt", 64)]  # alphabet, text, Mi bases
 FROM_THE_SYSTEM = 32  # Mi bases: from here on the memory is new at each read
+CLOCKS = time.perf_counter, time.thread_time
 
 
 def per_call(call, rounds=25, times=2000):
@@ -47,24 +49,25 @@ def calls(fc):
 
 
 def streamed(fc, alphabet, text, bases):
-    """The best times of a decoder's whole window by `readinto` of 1 MiB and by `read()`, in milliseconds, asked in turn. Where
-    they miss the limit there are more rounds: other work may take the memory's time from all of a few."""
-    packed, best = fc.encode_sequence(alphabet, text * (bases // 4)), [float("inf")] * 2
+    """The best times of a decoder's whole window by `readinto` of 1 MiB and by `read()`, in milliseconds by each clock, asked in
+    turn. Where they miss the limit there are more rounds: other work may take the memory's time from all of a few."""
+    packed, best = fc.encode_sequence(alphabet, text * (bases // 4)), [[float("inf")] * len(CLOCKS)] * 2
     for done in range(MOST_ROUNDS):
         if done >= ROUNDS and within(*best):
             break
         for at, drain in enumerate([readinto, lambda decoder: decoder.read()]):
             decoder = fc.StreamingDecoder.for_window(io.BytesIO(packed), alphabet, 1, bases)
-            begun = time.perf_counter()
+            begun = [clock() for clock in CLOCKS]
             held = drain(decoder)
-            best[at] = min(best[at], (time.perf_counter() - begun) * 1e3)
+            taken = [(clock() - then) * 1e3 for clock, then in zip(CLOCKS, begun)]
+            best[at] = [*map(min, best[at], taken)]
             del held  # its memory goes back behind the clock
     return best
 
 
 def within(into, whole):
-    """Whether `read()` has half the speed of `readinto` or more."""
-    return whole <= 2 * into
+    """Whether `read()` has half the speed of `readinto` or more by each clock."""
+    return all(of_read <= 2 * of_into for of_into, of_read in zip(into, whole))
 
 
 def readinto(decoder):
@@ -90,7 +93,8 @@ def timed(way):
     fast = way == "ctypes" or costs["plain window of 100 bases"] < LIMIT
     for alphabet, text, mebi in WINDOWS:
         into, whole = streamed(fc, alphabet, text, mebi << 20)
-        print(f"{way:9}  {mebi} Mi bases of {fc.Alphabet(alphabet)} by a decoder: readinto of 1 MiB {into:.1f} ms, read() {whole:.1f} ms")
+        shown = [" ms and ".join(f"{time:.1f}" for time in times) for times in (into, whole)]
+        print(f"{way:9}  {mebi} Mi bases of {fc.Alphabet(alphabet)} by a decoder: readinto of 1 MiB {shown[0]} ms, read() {shown[1]} ms")
         held_to = mebi < FROM_THE_SYSTEM or large_pages()
         fast = fast and (not held_to or within(into, whole))
     return fast
