@@ -394,6 +394,12 @@ dna2bit-codes v m = go (eqb v (ascii "T")) refl (eqb v (ascii "C")) refl (eqb v 
     go false p false q false r true s e = let h : v ≡ ascii "G" = eqb-true v (ascii "G") s in is-g h (ap (coding Dna2bit .code) h)
     go false p false q false r false s e = absurd (true≢false (sym e))
 
+-- and the symbols of its codes are these letters
+pub dna2bit-symbols : (c : ℕ) → c < 4 → coding Dna2bit .symbol c ≡ at (bytesOf "TCAG") c
+unfolding coding listed found dna2bit coded bytesOf
+dna2bit-symbols c h =
+    eqb→eq (coding Dna2bit .symbol c) (at (bytesOf "TCAG") c) (below (λ k. eqb (coding Dna2bit .symbol k) (at (bytesOf "TCAG") k)) 4 tt c h)
+
 -- ---- the four bases
 
 either : {P : Type 0} (t u : Bool) → (t ≡ true → P) → (u ≡ true → P) → t || u ≡ true → P

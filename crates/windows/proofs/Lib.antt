@@ -1,5 +1,6 @@
 pub mod Windows
 pub mod Turns
 pub mod WholeBytes
+pub mod AllBytes
 pub mod Answering
 pub mod Given

@@ -151,9 +151,21 @@ module _ (byte : ℕ → ℕ) (small : (j : ℕ) → byte j < 256) where
               ∙ ap (word (bitAt 8 byte) (place + b)) (sym f);
         }
 
--- ---- a window in three runs: bases up to a byte's first bit, bases of whole bytes, the rest
+-- ---- a window in two runs, and in three: bases up to a byte's first bit, bases of whole bytes, the rest
 
 module _ (A : Coding) (lent : List ℕ) (offset start count : ℕ) (memory : List ℕ) (room : count ≤ length memory) where
+  pub two-runs : (done : ℕ) (out₁ out₂ : List ℕ)
+      → done ≤ count
+      → out₁ ≡ putAt 0 (window A lent offset start done) memory
+      → out₂ ≡ putAt done (window A lent offset (start + done) (count - done)) out₁
+      → out₂ ≡ putAt 0 (window A lent offset start count) memory
+  two-runs done out₁ out₂ h e₁ e₂ =
+      let all : done + (count - done) ≡ count = omega arith in
+      e₂
+      ∙ ap (λ (k : ℕ). putAt k (window A lent offset (start + done) (count - done)) out₁) (sym (zero-add done))
+      ∙ more-written A lent offset 0 start done memory out₁ e₁ (count - done) (window A lent offset (start + done) (count - done)) (omega arith) refl
+      ∙ ap (λ (n : ℕ). putAt 0 (window A lent offset start n) memory) all
+
   -- `middle` bases from base `at-byte` on, which is the next base, unless there is none
   middle-run : (head middle at-byte : ℕ) → (0 < middle → at-byte ≡ start + head) → window A lent offset at-byte middle ≡ window A lent offset (start + head) middle
   unfolding tabulate
@@ -172,16 +184,11 @@ module _ (A : Coding) (lent : List ℕ) (offset start count : ℕ) (memory : Lis
       → out₃ ≡ putAt (head + middle) (window A lent offset (start + (head + middle)) (count - (head + middle))) out₂
       → out₃ ≡ putAt 0 (window A lent offset start count) memory
   three-runs head middle at-byte out₁ out₂ out₃ h e e₁ e₂ e₃ =
-      let done : ℕ = head + middle in
-      let all : done + (count - done) ≡ count = omega arith in
-      let d₂ : Written A lent offset 0 start done memory out₂ =
-      e₂
+      two-runs (head + middle) out₂ out₃ h
+      (e₂
       ∙ ap (λ (k : ℕ). putAt k (window A lent offset at-byte middle) out₁) (sym (zero-add head))
-      ∙ more-written A lent offset 0 start head memory out₁ e₁ middle (window A lent offset at-byte middle) (omega arith) (middle-run head middle at-byte e) in
+      ∙ more-written A lent offset 0 start head memory out₁ e₁ middle (window A lent offset at-byte middle) (omega arith) (middle-run head middle at-byte e))
       e₃
-      ∙ ap (λ (k : ℕ). putAt k (window A lent offset (start + done) (count - done)) out₂) (sym (zero-add done))
-      ∙ more-written A lent offset 0 start done memory out₂ d₂ (count - done) (window A lent offset (start + done) (count - done)) (omega arith) refl
-      ∙ ap (λ (n : ℕ). putAt 0 (window A lent offset start n) memory) all
 
 -- ---- the decoding table
 

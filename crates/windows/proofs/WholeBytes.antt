@@ -1,31 +1,30 @@
 -- Windows that are read by whole bytes: blocks of codes over any width, and plain bytes.
-use mathlib.Core.Path.{_≡_, refl, sym, ap, _∙_}
+use mathlib.Core.Path.{_≡_, refl, sym, ap, ap₂, _∙_}
 use mathlib.Core.Bool.{false}
 use mathlib.Core.List.{List, [], _∷_, map}
 use mathlib.Core.Logic.{⊎-elim}
 use Prim.Native.Nat.{ℕ, suc, _+_, _-_, _*_, _/_, _%_, _^_, _≤_, _<_, min}
-use native.Mathlib.Nat.{zero-add, add-assoc, add-mul, one-mul, mul-assoc, mul-one, suc-mul, mul-le-mul-right, le-of-eq, lt-of-lt-of-le, mod-lt, mod-self, mod-eq-of-lt}
+use native.Mathlib.Nat.{zero-add, add-zero, add-assoc, add-mul, one-mul, mul-assoc, suc-mul, mul-le-mul-right, le-of-eq, lt-of-lt-of-le, mod-lt, mod-self, mod-eq-of-lt}
 use native.Mathlib.Nat.{div-add-mod', div-mul-le-self, mul-div-cancel}
 use native.Mathlib.Decide.{decLt}
 use native.Mathlib.Omega.{arith}
-use lib.ListN.{length, replicate, getD, set, length-set, length-map}
+use lib.ListN.{length, replicate, set, length-set, length-map}
 use lib.Pow.{pow-mono}
 use Rattle.bits.specs.Tables.{tabulate, at, Bytes}
 use Rattle.bits.specs.Streams.{bitAt, word, fields}
 use Rattle.bits.specs.Packing.{fileByte, codesFrom}
 use Rattle.bits.specs.Memory.{putAt}
-use Rattle.bits.proofs.Tabulated.{length-tabulate, tabulate-ext, getD-tabulate, is-tabulate, replicate-tabulate, front-more}
+use Rattle.bits.proofs.Tabulated.{length-tabulate, tabulate-ext, getD-tabulate, is-tabulate, replicate-tabulate}
 use Rattle.bits.proofs.Words.{word-lt, bit-lt}
 use Rattle.bits.proofs.Shifts.{push-byte-is, code-lt}
 use Rattle.bits.proofs.Put.{Filled, none-filled, more-filled, put-none, put-one, put-put}
-use Rattle.bits.proofs.Blocks.{block-codes, word-byte, word-bytes}
+use Rattle.bits.proofs.Blocks.{block-codes, cut-fields, word-byte, word-bytes, word-field}
 use Rattle.bits.proofs.Files.{file-before, file-lent, file-past, file-small, word-lent}
 use Rattle.alphabet.specs.Symbols.{Coding, coding}
 use Rattle.alphabet.specs.declared.kind.AlphabetType.{AlphabetType}
-use Rattle.alphabet.specs.declared.kind.AlphabetType.the-variants.{Dna2bit}
 use Rattle.alphabet.proofs.Laws.{Plain, shape}
 use Rattle.windows.specs.Window.{window}
-use Rattle.windows.specs.Workers.{Decodes, Rows, symbolsOf, stretch, fileBytes}
+use Rattle.windows.specs.Workers.{Decodes, symbolsOf, stretch, fileBytes}
 use Rattle.windows.proofs.Windows.{baseAt, window-bases, map-tabulate}
 use Rattle.windows.proofs.Turns.{Written, more-written, entry}
 
@@ -56,27 +55,79 @@ module _ (A : Coding) (lent : List ℕ) (offset c n : ℕ) (whole : c * A .width
   block-of-lent v h e = ap (symbolsOf A c) (e ∙ sym (word-lent lent offset place (n * 8) h)) ∙ sym block-at
 
 -- a block in one byte
-pub block-of-byte : (A : Coding) (lent : List ℕ) (offset c : ℕ) → Bytes lent → c * A .width ≡ 8 → (first m : ℕ)
-    → symbolsOf A c (fileByte lent offset (first + m)) ≡ window A lent offset (first * c + m * c) c
-block-of-byte A lent offset c bytes whole first m =
-    let byte : ℕ → ℕ = fileByte lent offset in
-    ap (symbolsOf A c) (ap byte (sym (mul-one (first + m))) ∙ sym (word-byte byte (λ j. file-small lent offset j bytes) ((first + m) * 1)))
-    ∙ sym (block-at A lent offset c 1 whole first m)
+pub block-of-byte : (A : Coding) (lent : List ℕ) (offset c : ℕ) → Bytes lent → c * A .width ≡ 8 → (i j : ℕ) → i * A .width ≡ j * 8
+    → symbolsOf A c (fileByte lent offset j) ≡ window A lent offset i c
+block-of-byte A lent offset c bytes whole i j begins =
+    ap (symbolsOf A c) (sym (word-byte (fileByte lent offset) (λ k. file-small lent offset k bytes) j)) ∙ sym (window-block A lent offset c 1 i j begins whole)
 
-pub block-of-lent-byte : (A : Coding) (lent : List ℕ) (offset c : ℕ) → Bytes lent → c * A .width ≡ 8 → (first m : ℕ) → offset ≤ first
-    → symbolsOf A c (at lent (first - offset + m)) ≡ window A lent offset (first * c + m * c) c
-block-of-lent-byte A lent offset c bytes whole first m h =
-    let place : first - offset + m ≡ first + m - offset = omega arith in
-    ap (symbolsOf A c) (ap (at lent) place ∙ sym (file-lent lent offset (first + m) (omega arith))) ∙ block-of-byte A lent offset c bytes whole first m
+-- a base is one of its byte's
+pub base-of-byte : (A : Coding) (lent : List ℕ) (offset c : ℕ) → Bytes lent → c * A .width ≡ 8 → 0 < c → (i : ℕ)
+    → at (symbolsOf A c (fileByte lent offset (i / c))) (i % c) ≡ baseAt A lent offset i
+base-of-byte A lent offset c bytes whole some i =
+    let first : ℕ = i / c * c in
+    let begins : first * A .width ≡ i / c * 8 = mul-assoc (i / c) c (A .width) ∙ ap (λ (x : ℕ). i / c * x) whole in
+    ap (λ (xs : List ℕ). at xs (i % c)) (block-of-byte A lent offset c bytes whole first (i / c) begins ∙ window-bases A lent offset first c)
+    ∙ getD-tabulate c (λ t. baseAt A lent offset (first + t)) (i % c) 0 (mod-lt i some)
+    ∙ ap (baseAt A lent offset) (div-add-mod' i c)
+
+-- ---- a byte's worth of bases that begins anywhere
+
+-- eight bits, the first `skip` bits behind the beginning of byte j
+across : (byte : ℕ → ℕ) → ((k : ℕ) → byte k < 256) → (j skip : ℕ) → skip ≤ 8 → (byte j * 256 + byte (j + 1)) / 2 ^ (8 - skip) % 256 ≡ word (bitAt 8 byte) (j * 8 + skip) 8
+across byte small j skip h =
+    let s : ℕ → ℕ = bitAt 8 byte in
+    let sum : 1 * 8 + 8 ≡ skip + 8 + (8 - skip) = omega arith in
+    ap (λ (x : ℕ). (x * 256 + byte (j + 1)) / 2 ^ (8 - skip) % 256) (sym (word-byte byte small j))
+    ∙ ap (λ (x : ℕ). x / 2 ^ (8 - skip) % 256) (sym (word-bytes byte small j 1) ∙ ap (word s (j * 8)) sum)
+    ∙ word-field s (bit-lt 8 byte) (j * 8) skip 8 (8 - skip)
+
+-- c bases that fill eight bits, from base i on: of x, their byte, and y, the next one, which may be any where the first base begins with its byte
+module _ (A : Coding) (lent : List ℕ) (offset c i j skip x y : ℕ) (bytes : Bytes lent) (whole : c * A .width ≡ 8) (begins : i * A .width ≡ j * 8 + skip) (h : skip < 8) where
+  abbrev byte : ℕ → ℕ
+  byte = fileByte lent offset
+
+  joined-bits : x ≡ byte j → y < 256 → (0 < skip → y ≡ byte (j + 1)) → (x * 256 + y) / 2 ^ (8 - skip) % 256 ≡ word (bitAt 8 byte) (j * 8 + skip) 8
+  joined-bits e small next = go (decLt 0 skip)
+    where
+      go : Dec (0 < skip) → (x * 256 + y) / 2 ^ (8 - skip) % 256 ≡ word (bitAt 8 byte) (j * 8 + skip) 8
+      go (yes l) = ap₂ (λ (u v : ℕ). (u * 256 + v) / 2 ^ (8 - skip) % 256) e (next l) ∙ across byte (λ k. file-small lent offset k bytes) j skip (omega arith)
+      go (no l) =
+          let none : skip ≡ 0 = omega arith in
+          let fit : x < 256 = rw e (file-small lent offset j bytes) in
+          let high : (x * 256 + y) / 256 % 256 ≡ x = omega arith in
+          rw (none, add-zero (j * 8)) (high ∙ e ∙ sym (word-byte byte (λ k. file-small lent offset k bytes) j))
+
+  pub window-across : x ≡ byte j → y < 256 → (0 < skip → y ≡ byte (j + 1)) → symbolsOf A c ((x * 256 + y) / 2 ^ (8 - skip) % 256) ≡ window A lent offset i c
+  unfolding window codesFrom symbolsOf
+  window-across e small next =
+      ap (λ (v : ℕ). map (A .symbol) (fields (A .width) c v)) (joined-bits e small next ∙ ap₂ (word (bitAt 8 byte)) (sym begins) (sym whole))
+      ∙ sym (ap (map (A .symbol)) (cut-fields (bitAt 8 byte) (bit-lt 8 byte) (A .width) (i * A .width) c))
+
+-- both of lent bytes: of byte k, and of it and the one behind it where bits of that are needed
+module _ (A : Coding) (lent : List ℕ) (offset c i j k : ℕ) (bytes : Bytes lent) (whole : c * A .width ≡ 8) (e : j ≡ offset + k) where
+  of-file : (m : ℕ) → at lent (k + m) ≡ fileByte lent offset (j + m)
+  of-file m = let place : k + m ≡ j + m - offset = omega arith in ap (at lent) place ∙ sym (file-lent lent offset (j + m) (omega arith))
+
+  itself : at lent k ≡ fileByte lent offset j
+  itself = ap (at lent) (sym (add-zero k)) ∙ of-file 0 ∙ ap (fileByte lent offset) (add-zero j)
+
+  pub block-of-lent-byte : i * A .width ≡ j * 8 → symbolsOf A c (at lent k) ≡ window A lent offset i c
+  block-of-lent-byte begins = ap (symbolsOf A c) itself ∙ block-of-byte A lent offset c bytes whole i j begins
+
+  pub lent-across : (skip next : ℕ) → i * A .width ≡ j * 8 + skip → skip < 8 → (0 < skip → next ≡ 1)
+      → symbolsOf A c ((at lent k * 256 + at lent (k + next)) / 2 ^ (8 - skip) % 256) ≡ window A lent offset i c
+  lent-across skip next begins h one =
+      window-across A lent offset c i j skip (at lent k) (at lent (k + next)) bytes whole begins h itself (bytes (k + next))
+      (λ l. ap (λ (m : ℕ). at lent (k + m)) (one l) ∙ of-file 1)
 
 -- blocks written one after another: one more
-pub block-more : (A : Coding) (lent : List ℕ) (offset c from first n : ℕ) (memory out xs : List ℕ) → Written A lent offset from (first * c) (n * c) memory out
-    → from + n * c + c ≤ length memory → xs ≡ window A lent offset (first * c + n * c) c
-    → Written A lent offset from (first * c) ((n + 1) * c) memory (putAt (from + n * c) xs out)
-block-more A lent offset c from first n memory out xs done room e =
+pub block-more : (A : Coding) (lent : List ℕ) (offset c from start n : ℕ) (memory out xs : List ℕ) → Written A lent offset from start (n * c) memory out
+    → from + n * c + c ≤ length memory → xs ≡ window A lent offset (start + n * c) c
+    → Written A lent offset from start ((n + 1) * c) memory (putAt (from + n * c) xs out)
+block-more A lent offset c from start n memory out xs done room e =
     let up : n * c + c ≡ (n + 1) * c = sym (add-mul n 1 c ∙ ap (λ (x : ℕ). n * c + x) (one-mul c)) in
-    more-written A lent offset from (first * c) (n * c) memory out done c xs room e
-    ∙ ap (λ (m : ℕ). putAt from (window A lent offset (first * c) m) memory) up
+    more-written A lent offset from start (n * c) memory out done c xs room e
+    ∙ ap (λ (m : ℕ). putAt from (window A lent offset start m) memory) up
 
 -- bytes pushed one after another (`push_byte`) write the number that they write; up to eight of them nothing falls out
 pub pushed : (byte : ℕ → ℕ) → ((j : ℕ) → byte j < 256) → (j n x : ℕ) → n < 8 → x ≡ word (bitAt 8 byte) (j * 8) (n * 8)
@@ -172,38 +223,6 @@ module _ (g start count head r : ℕ) (some : 0 < g) (e : head ≡ min ((g - sta
           let up : (g - start % g) % g ≡ 0 = ap (λ (x : ℕ). x % g) full ∙ mod-self g in
           let sum : start + head ≡ start / g * g = omega (arith, inner, parts, up) in
           rw sum (ap (λ (x : ℕ). x * g) (mul-div-cancel (start / g) some))
-
--- ---- the rows of Dna2bit
-
--- rows filled from the front: one more
-pub row-more : (rows : List (List ℕ)) (row : List ℕ) (v : ℕ) → v < length rows
-    → ((k : ℕ) → k < v → getD rows k [] ≡ symbolsOf (coding Dna2bit) 4 k) → row ≡ symbolsOf (coding Dna2bit) 4 v
-    → (k : ℕ) → k < v + 1 → getD (set rows v row) k [] ≡ symbolsOf (coding Dna2bit) 4 k
-row-more rows row v h done e = rw e (front-more (symbolsOf (coding Dna2bit) 4) [] rows v h done)
-
-pub rows-done : (rows : List (List ℕ)) → length rows ≡ 256 → ((k : ℕ) → k < 256 → getD rows k [] ≡ symbolsOf (coding Dna2bit) 4 k) → Rows rows
-unfolding Rows
-rows-done rows e h = is-tabulate 256 (symbolsOf (coding Dna2bit) 4) [] rows e h
-
--- the row of a byte
-pub row-of : (rows : List (List ℕ)) (v byte : ℕ) → Rows rows → v ≡ byte → v < 256 → getD rows v [] ≡ symbolsOf (coding Dna2bit) 4 byte
-unfolding Rows
-row-of rows v byte e q h =
-    ap (λ (t : List (List ℕ)). getD t v []) e ∙ getD-tabulate 256 (symbolsOf (coding Dna2bit) 4) v [] h ∙ ap (symbolsOf (coding Dna2bit) 4) q
-
--- n rows, and the rest behind them
-pub rows-joined : (lent : List ℕ) (offset from first count n : ℕ) (memory out₁ out₂ : List ℕ) → n ≤ count → from + count * 4 ≤ length memory
-    → out₁ ≡ putAt from (window (coding Dna2bit) lent offset (first * 4) (n * 4)) memory
-    → out₂ ≡ putAt (from + n * 4) (window (coding Dna2bit) lent offset ((first + n) * 4) ((count - n) * 4)) out₁
-    → out₂ ≡ putAt from (window (coding Dna2bit) lent offset (first * 4) (count * 4)) memory
-rows-joined lent offset from first count n memory out₁ out₂ h room e₁ e₂ =
-    let A : Coding = coding Dna2bit in
-    let place : (first + n) * 4 ≡ first * 4 + n * 4 = omega arith in
-    let whole : n * 4 + (count - n) * 4 ≡ count * 4 = omega arith in
-    let rest : List ℕ = window A lent offset ((first + n) * 4) ((count - n) * 4) in
-    e₂
-    ∙ more-written A lent offset from (first * 4) (n * 4) memory out₁ e₁ ((count - n) * 4) rest (omega arith) (ap (λ (i : ℕ). window A lent offset i ((count - n) * 4)) place)
-    ∙ ap (λ (m : ℕ). putAt from (window A lent offset (first * 4) m) memory) whole
 
 -- ---- plain bytes
 

@@ -1,11 +1,11 @@
 -- What the private functions of this crate ask and say; no public contract cites it.
 use mathlib.Core.Path.{_≡_}
 use mathlib.Core.List.{List, map}
-use Prim.Native.Nat.{ℕ, _+_, _*_, _%_, _^_, _≤_}
+use Prim.Native.Nat.{ℕ, _+_, _-_, _*_, _/_, _%_, _^_, _≤_}
 use Rattle.bits.specs.Tables.{tabulate, at}
 use Rattle.bits.specs.Streams.{bitAt, word, fields}
 use Rattle.bits.specs.Packing.{fileByte}
-use Rattle.alphabet.specs.Symbols.{Coding, coding}
+use Rattle.alphabet.specs.Symbols.{Coding}
 use Rattle.alphabet.specs.Names.{kindOf}
 use Rattle.alphabet.specs.declared.kind.AlphabetType.{AlphabetType}
 use Rattle.alphabet.specs.declared.kind.AlphabetType.the-variants.{Dna2bit, Dna3bit}
@@ -25,7 +25,7 @@ Passed answer start room = (n : ℕ) → answer ≡ Read.Bases n → (n ≡ 0 �
 -- the kind whose symbols an engine writes: that of its own alphabet, or the one that is asked for
 abbrev pub served : Engine → AlphabetType → AlphabetType
 served Engine.Own kind = kind
-served Engine.Rows kind = Dna2bit
+served Engine.Fours kind = Dna2bit
 served Engine.Blocks kind = Dna3bit
 served Engine.Any kind = kind
 
@@ -47,9 +47,10 @@ pub record Holds (byte : ℕ → ℕ) (place : ℕ) (held : Held) : Type 0 where
 unfoldable pub symbolsOf : Coding → ℕ → ℕ → List ℕ
 symbolsOf A c v = map (A .symbol) (fields (A .width) c v)
 
--- the 256 rows of Dna2bit: a row for each packed byte, its four symbols
-unfoldable pub Rows : List (List ℕ) → Type 0
-Rows rows = rows ≡ tabulate 256 (symbolsOf (coding Dna2bit) 4)
+-- the bytes of so many times four bases of Dna2bit, from base `start` on, are lent; a four that begins within a byte reaches into the next one
+pub record FoursLent (offset start count lent : ℕ) : Type 0 where
+  pub begun : offset ≤ start / 4
+  pub ended : count ≤ offset + lent - (start / 4 + (start % 4 + 3) / 4)
 
 -- n entries of a list from entry `first` on
 unfoldable pub stretch : List ℕ → ℕ → ℕ → List ℕ

@@ -1,10 +1,10 @@
 // Windows: the symbols of a stretch of a packed file of which some bytes are lent.
 mod asked;
 mod blocks;
+mod fours;
 mod plain;
 mod read;
 mod rolling;
-mod rows;
 
 pub use read::Read;
 pub use read::decode_2bit;

@@ -3,9 +3,9 @@ use crate::asked::asked;
 use crate::asked::asked_covered;
 use crate::asked::kind_of;
 use crate::blocks::three_bits;
+use crate::fours::two_bits;
 use crate::plain::copy_file;
 use crate::rolling::roll;
-use crate::rows::two_bits;
 use alphabet::AlphabetType;
 use alphabet::Refusal;
 use alphabet::decoding_array;
@@ -22,10 +22,10 @@ pub enum Read {
     Refused(Refusal),
 }
 
-// Which engine writes: an alphabet's own, the rows of Dna2bit, the blocks of Dna3bit, or the rolling one, which takes any alphabet.
+// Which engine writes: an alphabet's own, the fours of Dna2bit, the blocks of Dna3bit, or the rolling one, which takes any alphabet.
 enum Engine {
     Own,
-    Rows,
+    Fours,
     Blocks,
     Any,
 }
@@ -78,7 +78,7 @@ fn written(
 {
     match engine {
         Engine::Own => own(kind, bytes, offset, start, count, out),
-        Engine::Rows => two_bits(bytes, offset, start, count, out),
+        Engine::Fours => two_bits(bytes, offset, start, count, out),
         Engine::Blocks => three_bits(bytes, offset, start, count, out),
         Engine::Any => rolled(kind, bytes, offset, start, count, out),
     }
@@ -179,7 +179,7 @@ pub fn decode_covered(
     answered(told, Engine::Own, alphabet, bytes, byte_offset, start, out)
 }
 
-// The engine of Dna2bit: rows of four symbols.
+// The engine of Dna2bit: four bases from a byte.
 pub fn decode_2bit(
     bytes: &[u8],
     byte_offset: usize,
@@ -190,7 +190,7 @@ pub fn decode_2bit(
     ensures { λ r. ⌜ r ≡ readAt 0 «byte_offset» start end (length (now (out .entry))) ⌝ }
     ensures { λ _. ⌜ now (out .exit) ≡ readMemory 0 (now (bytes .entry)) «byte_offset» start end (now (out .entry)) ⌝ }
 {
-    zero_filling(Engine::Rows, 0, bytes, byte_offset, start, end, out)
+    zero_filling(Engine::Fours, 0, bytes, byte_offset, start, end, out)
 }
 
 // The engine of Dna3bit: eight bases from three bytes.

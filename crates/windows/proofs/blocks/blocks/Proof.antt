@@ -78,7 +78,7 @@ loop-again c =
       omega (arith, i .loop-test .taken),
       e .eight .kept .1 .1 .0 ∙ l .inv .1,
       e .eight .ensures
-          ∙ block-more (coding Dna3bit) (a .bytes .now) (a .offset) 8 (a .from) (a .block) (l .n) (a .out .now) (l .out) _ (l .inv .2)
+          ∙ block-more (coding Dna3bit) (a .bytes .now) (a .offset) 8 (a .from) (a .block * 8) (l .n) (a .out .now) (l .out) _ (l .inv .2)
           (omega (arith, i .loop-test .taken, start i .pre .1 .space))
           (block-of-lent (coding Dna3bit) (a .bytes .now) (a .offset) 8 3 (rw (widths .of-dna3bit)) (a .block) (l .n) (t .three .result) (t .before .before .if1 .left)
           (t .three .ensures)),

@@ -60,7 +60,7 @@ returns-2 : tie.Need-returns-2
 returns-2 c =
     let w = c .before .before in
     let t = w .before .before in
-    by-engine (t .before .before .before .before) Engine.Rows _ (t .enum-told2 .given .1) (w .two-bits .ensures)
+    by-engine (t .before .before .before .before) Engine.Fours _ (t .enum-told2 .given .1) (w .two-bits .ensures)
 
 same-length-3 : tie.Need-same-length-3
 same-length-3 c = search needs
