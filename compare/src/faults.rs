@@ -69,7 +69,10 @@ faults! {
     EncoderTakesTwo Packing "an encoder's choice of 2 is taken as sound",
     ChoiceBeforeAlphabet Packing "a choice above 1 is refused before the alphabet",
 
-    AlphabeticalRows Windows "Dna2bit decodes by codes in alphabetical order",
+    AlphabeticalSymbols Windows "Dna2bit decodes by codes in alphabetical order",
+    LowBitsFirst Windows "Dna2bit decodes a byte from its low bits on",
+    OneByteForFour Windows "four bases of Dna2bit that begin within a byte are taken from that byte alone",
+    LongRunCut Windows "a run of 64 whole bytes of Dna2bit loses its last",
     BlockAtEdge Windows "the 3-bit block engine runs at an edge without all three bytes",
     NoFillBefore Windows "bytes before byte_offset do not read as zero",
     NoFillBehind Windows "bytes behind those lent do not read as zero",
@@ -274,9 +277,18 @@ impl Fault {
     fn windows(self, call: &Call, before: &[u8], words: &mut [u64], out: &mut [u8]) {
         let [alphabet, _, start, end, ..] = call.numbers;
         match self {
-            Fault::AlphabeticalRows if alphabet == 0 => {
+            Fault::AlphabeticalSymbols if alphabet == 0 => {
                 let count = words[1] as usize;
                 swap(&mut out[..count], b"TCAG", b"ACGT");
+            }
+            Fault::LowBitsFirst if alphabet == 0 && words[0] == 0 => low_bits_first(call, out),
+            Fault::OneByteForFour if alphabet == 0 && words[0] == 0 && start < end => {
+                for k in (0..(end - start) / 4 * 4).filter(|k| start % 4 + k % 4 >= 4) {
+                    out[k as usize] = b'T';
+                }
+            }
+            Fault::LongRunCut if alphabet == 0 && words[0] == 0 && start % 4 == 0 && end.saturating_sub(start) >= 256 => {
+                out[252..256].copy_from_slice(&before[252..256])
             }
             Fault::BlockAtEdge if alphabet == 1 && words[0] == 0 => block_at_edge(call, out),
             Fault::WindowLimit if end == LIMIT && start < end && words[0] != 8 => refuse(2, call, before, words, out),
@@ -352,6 +364,16 @@ fn uppercase_members(alphabet: u64, text: &mut [u8]) {
 /// The largest number of `bits` bits.
 fn mask(bits: u64) -> Option<u64> {
     1u64.checked_shl(bits as u32).map(|power| power - 1)
+}
+
+/// A window of Dna2bit with each byte's four bases in reverse.
+fn low_bits_first(call: &Call, out: &mut [u8]) {
+    let [_, byte_offset, start, end, ..] = call.numbers;
+    for i in start..end.max(start) {
+        let place = (i / 4).checked_sub(byte_offset).map_or(usize::MAX, |place| place as usize);
+        let byte = call.text.get(place).copied().unwrap_or(0);
+        out[(i - start) as usize] = b"TCAG"[usize::from(byte >> (i % 4 * 2) & 3)];
+    }
 }
 
 /// Eight bases from three bytes of which not all are lent: taken for absent, they read as zeros.

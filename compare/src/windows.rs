@@ -18,6 +18,7 @@ const READS: [Entry; 7] = [
 pub fn cases(check: &mut Checker, random: &mut Random, scale: u64) -> Go {
     for alphabet in 0..=5 {
         every_window(check, random, alphabet)?;
+        every_length(check, random, alphabet)?;
         for _ in 0..1500 * scale {
             random_window(check, random, alphabet)?;
             far_window(check, random, alphabet)?;
@@ -86,6 +87,21 @@ fn every_window(check: &mut Checker, random: &mut Random, alphabet: u64) -> Go {
                     Window { alphabet, bytes: &bytes, byte_offset, start, end, room }.put_all(check)?;
                 }
             }
+        }
+    }
+    Ok(())
+}
+
+/// Windows of every length up to some that are read in bulk, from every base of a byte or block on: lent the bytes that
+/// cover them, one fewer at either end, and one more.
+fn every_length(check: &mut Checker, random: &mut Random, alphabet: u64) -> Go {
+    for start in 8..16 {
+        for end in start..=start + 330 {
+            let low = start * model::width(alphabet) / 8;
+            let high = (end * model::width(alphabet)).div_ceil(8);
+            let (byte_offset, behind) = random.pick(&[(low, high), (low, high - 1), (low + 1, high), (low, high + 1)]);
+            let bytes = random.bytes(behind.saturating_sub(byte_offset) as usize);
+            Window { alphabet, bytes: &bytes, byte_offset, start, end, room: (end - start) as usize }.put_all(check)?;
         }
     }
     Ok(())

@@ -45,15 +45,19 @@ struct Place {
     high: usize,
 }
 
-/// Windows of one size spread over the first million bases, so that they start at every bit of a byte.
+/// Windows of one size at pseudo-random places of the first million bases: they start at every bit of a byte, and a processor cannot foresee at which.
 fn places(sample: &Sample, bases: usize) -> Vec<Place> {
     let count = (4_000_000 / bases).clamp(40, 20_000);
-    let place = |k: usize| {
-        let start = k * 7_919 % (1_000_000 - bases);
+    let mut state = 0xD1B5_4A32_D192_ED03_u64;
+    let mut place = || {
+        state ^= state << 13;
+        state ^= state >> 7;
+        state ^= state << 17;
+        let start = (state >> 33) as usize % (1_000_000 - bases);
         let (low, high) = byte_range_for_bases(start, start + bases, sample.table.bits_per_symbol);
         Place { start, end: start + bases, low, high }
     };
-    (0..count).map(place).collect()
+    (0..count).map(|_| place()).collect()
 }
 
 fn windows(bench: &mut Bench, sample: &Sample, packed: &[u8], name: &str, places: &[Place], read: abi::Window) {

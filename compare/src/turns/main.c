@@ -1,7 +1,7 @@
 /*
  * Two libraries in one process, by turns: `before` and `now`. In each round both make a row's calls, the first of them changing with the round. Prints for
- * each row, tab between: its name, the best time of each in nanoseconds a round, the ratio of these, and the median of the rounds' own ratios. What the two
- * leave in memory is compared, and a difference ends the program with 1.
+ * each row, tab between: its name, the best time of each in nanoseconds, a call for windows and a pass for other rows, the ratio of these, and the median of
+ * the rounds' own ratios. What the two leave in memory is compared, and a difference ends the program with 1.
  */
 #include <stdio.h>
 #include <stdlib.h>
@@ -41,6 +41,7 @@ static const struct {
     {"window 1 zero-filling", offsetof(struct side, window), 1, 5},
     {"window 1 covered", offsetof(struct side, covered), 1, 5},
     {"window 4 zero-filling", offsetof(struct side, window), 4, 5},
+    {"window 4 covered", offsetof(struct side, covered), 4, 5},
     {"window 10 zero-filling", offsetof(struct side, window), 10, 5},
     {"window 10 covered", offsetof(struct side, covered), 10, 5},
     {"window 100 zero-filling", offsetof(struct side, window), 100, 5},
@@ -66,7 +67,7 @@ static int by_size(const void *a, const void *b) {
 }
 
 /* Measures one row, and says whether both sides left the same memory. */
-static int measure(const char *name, size_t place, int rounds, const struct work *earlier, const struct work *present) {
+static int measure(const char *name, size_t place, size_t calls, int rounds, const struct work *earlier, const struct work *present) {
     static double then[MOST_ROUNDS], here[MOST_ROUNDS], ratio[MOST_ROUNDS];
     memset(earlier->out, 0x5A, earlier->room);
     memset(present->out, 0x5A, present->room);
@@ -80,7 +81,7 @@ static int measure(const char *name, size_t place, int rounds, const struct work
     qsort(then, rounds, sizeof *then, by_size);
     qsort(here, rounds, sizeof *here, by_size);
     qsort(ratio, rounds, sizeof *ratio, by_size);
-    printf("%s\t%.0f\t%.0f\t%.3f\t%.3f\n", name, then[0], here[0], here[0] / then[0], ratio[rounds / 2]);
+    printf("%s\t%.1f\t%.1f\t%.3f\t%.3f\n", name, then[0] / calls, here[0] / calls, here[0] / then[0], ratio[rounds / 2]);
     fflush(stdout);
     return memcmp(earlier->out, present->out, present->room) == 0;
 }
@@ -98,16 +99,25 @@ static uint8_t *memory(size_t size) {
     return found;
 }
 
+/* The next of a row of pseudo-random numbers, which begins with a state that is not 0. */
+static uint64_t next(uint64_t *state) {
+    *state ^= *state << 13;
+    *state ^= *state >> 7;
+    *state ^= *state << 17;
+    return *state >> 33;
+}
+
 /* A pseudo-random text, the same in every run. */
 static void fill(uint8_t *text, size_t bases, const char *symbols) {
     uint64_t state = 0x9E3779B97F4A7C15u;
     size_t count = strlen(symbols);
-    for (size_t i = 0; i < bases; i++) {
-        state ^= state << 13;
-        state ^= state >> 7;
-        state ^= state << 17;
-        text[i] = (uint8_t)symbols[(state >> 33) % count];
-    }
+    for (size_t i = 0; i < bases; i++) text[i] = (uint8_t)symbols[next(&state) % count];
+}
+
+/* Where windows start: pseudo-random, so that a processor cannot foresee in which bit of a byte. */
+static void place(uint32_t *starts, size_t bases) {
+    uint64_t state = 0xD1B54A32D192ED03u;
+    for (size_t i = 0; i < windows_of(bases); i++) starts[i] = (uint32_t)(next(&state) % (WINDOWS_BEFORE - bases));
 }
 
 int main(int count, char **words) {
@@ -118,20 +128,24 @@ int main(int count, char **words) {
         return 2;
     }
     uint8_t *text = memory(bases), *packed = memory(bases), *earlier_out = memory(bases), *present_out = memory(bases);
+    static uint32_t starts[MOST_WINDOWS];
     for (int alphabet = 0; alphabet < 5; alphabet++) {
         uint64_t bits = alphabets[alphabet].bits;
         fill(text, bases, alphabets[alphabet].symbols);
-        struct work present = {alphabet, bits, text, packed, bases, (bases * bits + 7) / 8, 0, packed, bases};
+        struct work present = {alphabet, bits, text, packed, bases, (bases * bits + 7) / 8, 0, starts, packed, bases};
         now.encode_sequence(&present);
         for (size_t i = 0; i < sizeof rows / sizeof *rows; i++) {
             char name[64];
             snprintf(name, sizeof name, "%s %s", rows[i].name, alphabets[alphabet].name);
             if (alphabet >= rows[i].alphabets || !wanted(name, count - 3, words + 3)) continue;
             present.piece = rows[i].piece;
+            int reads_windows = strncmp(name, "window", 6) == 0;
+            if (reads_windows) place(starts, rows[i].piece);
             present.out = present_out;
             struct work earlier = present;
             earlier.out = earlier_out;
-            if (!measure(name, rows[i].place, rounds, &earlier, &present)) {
+            size_t calls = reads_windows ? windows_of(rows[i].piece) : 1;
+            if (!measure(name, rows[i].place, calls, rounds, &earlier, &present)) {
                 fprintf(stderr, "%s: the two libraries leave different memory\n", name);
                 same = 0;
             }

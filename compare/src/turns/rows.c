@@ -49,11 +49,11 @@ static void decode(const struct work *work) {
 
 typedef fc_count read_of(uint64_t alphabet, const uint8_t *bytes, size_t len, uint64_t byte_offset, uint64_t start, uint64_t end, uint8_t *out, size_t room);
 
-/* Windows all over the first half million bases, each lent the bytes that cover it. */
+/* Windows that start where they were told, each lent the bytes that cover it. */
 static void windows(const struct work *work, read_of *read) {
-    size_t count = least(20000, 2000000 / work->piece);
+    size_t count = windows_of(work->piece);
     for (size_t k = 0; k < count; k++) {
-        size_t start = k * 7919 % (500000 - work->piece), end = start + work->piece;
+        size_t start = work->starts[k], end = start + work->piece;
         size_t low = start * work->bits / 8, high = (end * work->bits + 7) / 8;
         read(work->alphabet, work->packed + low, high - low, low, start, end, work->out, work->room);
     }
