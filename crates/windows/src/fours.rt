@@ -119,7 +119,8 @@ fn singles(bytes: &[u8], offset: usize, start: usize, count: usize, out: &mut [u
     }
 }
 
-// `count` bases from base `start` on: by fours, and one at a time what is left, and where bytes are not lent.
+// `count` bases from base `start` on: by fours, and one at a time what is left, and where bytes are not lent. Fewer than four are asked for first, so that the
+// shortest windows pay for nothing else.
 pub fn two_bits(bytes: &[u8], offset: usize, start: usize, count: usize, out: &mut [u8])
     requires { ⌜ Fits start count 0 (length (now out)) ⌝ }
     ensures { λ _. ⌜ now (out .exit) ≡ putAt 0 (window (coding Dna2bit) (now (bytes .entry)) offset start count) (now (out .entry)) ⌝ }
