@@ -48,6 +48,8 @@ static const struct {
     {"window 100 covered", offsetof(struct side, covered), 100, 5},
     {"window 1000 zero-filling", offsetof(struct side, window), 1000, 5},
     {"window 1000 covered", offsetof(struct side, covered), 1000, 5},
+    {"window 100000 zero-filling", offsetof(struct side, window), 100000, 5},
+    {"window 100000 covered", offsetof(struct side, covered), 100000, 5},
     {"stream 65536", offsetof(struct side, stream), 65536, 5},
 };
 

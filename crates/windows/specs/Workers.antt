@@ -1,7 +1,7 @@
 -- What the private functions of this crate ask and say; no public contract cites it.
 use mathlib.Core.Path.{_≡_}
 use mathlib.Core.List.{List, map}
-use Prim.Native.Nat.{ℕ, _+_, _-_, _*_, _/_, _%_, _^_, _≤_}
+use Prim.Native.Nat.{ℕ, _+_, _*_, _%_, _^_, _≤_}
 use Rattle.bits.specs.Tables.{tabulate, at}
 use Rattle.bits.specs.Streams.{bitAt, word, fields}
 use Rattle.bits.specs.Packing.{fileByte}
@@ -46,11 +46,6 @@ pub record Holds (byte : ℕ → ℕ) (place : ℕ) (held : Held) : Type 0 where
 -- the symbols of the c codes, b bits wide, that a number writes
 unfoldable pub symbolsOf : Coding → ℕ → ℕ → List ℕ
 symbolsOf A c v = map (A .symbol) (fields (A .width) c v)
-
--- the bytes of so many times four bases of Dna2bit, from base `start` on, are lent; a four that begins within a byte reaches into the next one
-pub record FoursLent (offset start count lent : ℕ) : Type 0 where
-  pub begun : offset ≤ start / 4
-  pub ended : count ≤ offset + lent - (start / 4 + (start % 4 + 3) / 4)
 
 -- n entries of a list from entry `first` on
 unfoldable pub stretch : List ℕ → ℕ → ℕ → List ℕ

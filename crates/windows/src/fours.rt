@@ -1,6 +1,5 @@
 // Dna2bit: four bases from a byte, by arithmetic. There is no table, so a call lays none out, and the compiler may read many bytes at once.
 use crate::rolling::fetch;
-use bits::LIMIT;
 use bits::beyond;
 use bits::least;
 use std::num::wrapping_add_u8;
@@ -12,10 +11,10 @@ ghost use Rattle.bits.specs.Memory.{putAt};
 ghost use Rattle.alphabet.specs.Symbols.{coding};
 ghost use Rattle.alphabet.specs.declared.kind.AlphabetType.the-variants.{Dna2bit};
 ghost use Rattle.windows.specs.Window.{window};
-ghost use Rattle.windows.specs.Workers.{Fits, FoursLent, symbolsOf};
+ghost use Rattle.windows.specs.Workers.{Fits, symbolsOf};
 
-// From how many fours on a loop without shifts gains more than the branch to it may cost.
-const LONG: usize = 64;
+// How long a window is for which a loop without shifts gains more than the two branches by its start may cost.
+const LONG: usize = 512;
 
 // The smaller of two bytes.
 fn smaller(a: u8, b: u8) -> u8
@@ -56,37 +55,8 @@ fn joined(x: u8, y: u8, s: usize) -> u8
     ((((x as u16) * 256 + (y as u16)) >> (8 - s * 2)) % 256) as u8
 }
 
-// `count` times four bases from base `start` on, each four of two neighbouring bytes. Where in a byte the window starts goes into the shift alone: a branch by it
-// is one that the processor cannot foresee.
-fn put_fours(bytes: &[u8], offset: usize, start: usize, count: usize, out: &mut [u8])
-    requires { ⌜ FoursLent offset start count (length (now bytes)) × Fits start (count * 4) 0 (length (now out)) ⌝ }
-    ensures { λ _. ⌜ now (out .exit) ≡ putAt 0 (window (coding Dna2bit) (now (bytes .entry)) offset start (count * 4)) (now (out .entry)) ⌝ }
-{
-    let s = start % 4;
-    let i = start / 4 - offset;
-    // A four that begins with its byte takes nothing of the next one, which need not be lent.
-    let next = (s + 3) / 4;
-    let mut n: usize = 0;
-    while n < count {
-        put_four(joined(bytes[i + n], bytes[i + n + next], s), out, n * 4);
-        n += 1;
-    }
-}
-
-// The same where base `start` is its byte's first: each four is a byte.
-fn put_whole(bytes: &[u8], offset: usize, start: usize, count: usize, out: &mut [u8])
-    requires { ⌜ FoursLent offset start count (length (now bytes)) × Fits start (count * 4) 0 (length (now out)) × (start % 4 ≡ 0) ⌝ }
-    ensures { λ _. ⌜ now (out .exit) ≡ putAt 0 (window (coding Dna2bit) (now (bytes .entry)) offset start (count * 4)) (now (out .entry)) ⌝ }
-{
-    let i = start / 4 - offset;
-    let mut n: usize = 0;
-    while n < count {
-        put_four(bytes[i + n], out, n * 4);
-        n += 1;
-    }
-}
-
-// Four bases at a time from base `start` on, at most `most` times and while their bytes are lent. The answer is how many times.
+// Four bases at a time from base `start` on, each four of two neighbouring bytes, at most `most` times and while the bytes are lent. The answer is how many times.
+// Where in a byte the window starts goes into the shift alone: a branch by it is one that the processor cannot foresee.
 fn fours(bytes: &[u8], offset: usize, start: usize, most: usize, out: &mut [u8]) -> usize
     requires { ⌜ Fits start (most * 4) 0 (length (now out)) ⌝ }
     ensures { λ r. ⌜ (r ≤ most) × (now (out .exit) ≡ putAt 0 (window (coding Dna2bit) (now (bytes .entry)) offset start (r * 4)) (now (out .entry))) ⌝ }
@@ -96,13 +66,40 @@ fn fours(bytes: &[u8], offset: usize, start: usize, most: usize, out: &mut [u8])
         return 0;
     }
     let s = start % 4;
-    let count = least(beyond(bytes.len(), first - offset + (s + 3) / 4), most);
-    // Many, and s is 0: one comparison for both, since a branch by s alone would be taken or not as the start happens to lie.
-    if LONG + s * LIMIT <= count {
-        put_whole(bytes, offset, start, count, out);
-        return count;
+    let i = first - offset;
+    // A four that begins with its byte takes nothing of the next one, which need not be lent.
+    let next = (s + 3) / 4;
+    let count = least(beyond(bytes.len(), i + next), most);
+    let mut n: usize = 0;
+    while n < count {
+        put_four(joined(bytes[i + n], bytes[i + n + next], s), out, n * 4);
+        n += 1;
     }
-    put_fours(bytes, offset, start, count, out);
+    count
+}
+
+// The bases of lent bytes, the first of them byte `first` of the file, of at most `most`, written from place `from` on. The answer is of how many.
+fn whole_bytes(
+    bytes: &[u8],
+    offset: usize,
+    first: usize,
+    most: usize,
+    out: &mut [u8],
+    from: usize,
+) -> usize
+    requires { ⌜ Fits (first * 4) (most * 4) from (length (now out)) ⌝ }
+    ensures { λ r. ⌜ (r ≤ most) × (now (out .exit) ≡ putAt from (window (coding Dna2bit) (now (bytes .entry)) offset (first * 4) (r * 4)) (now (out .entry))) ⌝ }
+{
+    if first < offset {
+        return 0;
+    }
+    let i = first - offset;
+    let count = least(beyond(bytes.len(), i), most);
+    let mut n: usize = 0;
+    while n < count {
+        put_four(bytes[i + n], out, from + n * 4);
+        n += 1;
+    }
     count
 }
 
@@ -119,6 +116,19 @@ fn singles(bytes: &[u8], offset: usize, start: usize, count: usize, out: &mut [u
     }
 }
 
+// A long window: one base at a time up to a byte, by whole bytes, and one at a time to the end and where bytes are not lent.
+fn long_window(bytes: &[u8], offset: usize, start: usize, count: usize, out: &mut [u8])
+    requires { ⌜ Fits start count 0 (length (now out)) ⌝ }
+    ensures { λ _. ⌜ now (out .exit) ≡ putAt 0 (window (coding Dna2bit) (now (bytes .entry)) offset start count) (now (out .entry)) ⌝ }
+{
+    let head = least((4 - start % 4) % 4, count);
+    singles(bytes, offset, start, head, out, 0);
+    let first = (start + head) / 4;
+    let most = (count - head) / 4;
+    let done = head + whole_bytes(bytes, offset, first, most, out, head) * 4;
+    singles(bytes, offset, start + done, count - done, out, done);
+}
+
 // `count` bases from base `start` on: by fours, and one at a time what is left, and where bytes are not lent. Fewer than four are asked for first, so that the
 // shortest windows pay for nothing else.
 pub fn two_bits(bytes: &[u8], offset: usize, start: usize, count: usize, out: &mut [u8])
@@ -127,6 +137,10 @@ pub fn two_bits(bytes: &[u8], offset: usize, start: usize, count: usize, out: &m
 {
     if count < 4 {
         singles(bytes, offset, start, count, out, 0);
+        return;
+    }
+    if LONG <= count {
+        long_window(bytes, offset, start, count, out);
         return;
     }
     let done = fours(bytes, offset, start, count / 4, out) * 4;

@@ -12,7 +12,7 @@ abbrev wrote : (s : tie.After-singles2) → tie.After-fours
 wrote s = s .before .before .before .before
 
 abbrev start : (f : tie.After-fours) → tie.Start
-start f = f .before .before .before .before .before
+start f = f .before .before .before .before .before .before
 
 singles-requires : tie.Need-singles-requires
 singles-requires c κs = search needs
@@ -22,6 +22,15 @@ same-length c = search needs
 
 returns : tie.Need-returns
 returns c = search needs
+
+long-window-requires : tie.Need-long-window-requires
+long-window-requires c κs = search needs
+
+same-length-2 : tie.Need-same-length-2
+same-length-2 c = search needs
+
+returns-2 : tie.Need-returns-2
+returns-2 c = search needs
 
 fours-requires : tie.Need-fours-requires
 fours-requires c κs = search needs
@@ -38,11 +47,11 @@ sub-singles c = search needs
 singles-requires-2 : tie.Need-singles-requires-2
 singles-requires-2 c κs = search needs
 
-same-length-2 : tie.Need-same-length-2
-same-length-2 c = search needs
+same-length-3 : tie.Need-same-length-3
+same-length-3 c = search needs
 
-returns-2 : tie.Need-returns-2
-returns-2 c =
+returns-3 : tie.Need-returns-3
+returns-3 c =
     let b = c .before .before in
     let f = wrote b in
     let s = start f in
@@ -57,10 +66,13 @@ two-bits-spec =
     singles-requires
     same-length
     returns
+    long-window-requires
+    same-length-2
+    returns-2
     fours-requires
     mul-done
     add-singles
     sub-singles
     singles-requires-2
-    same-length-2
-    returns-2)
+    same-length-3
+    returns-3)
