@@ -72,7 +72,7 @@ faults! {
     AlphabeticalSymbols Windows "Dna2bit decodes by codes in alphabetical order",
     LowBitsFirst Windows "Dna2bit decodes a byte from its low bits on",
     OneByteForFour Windows "four bases of Dna2bit that begin within a byte are taken from that byte alone",
-    LongRunCut Windows "a run of 64 whole bytes of Dna2bit loses its last",
+    LongRunCut Windows "a window of 512 bases of Dna2bit and more loses four of them",
     BlockAtEdge Windows "the 3-bit block engine runs at an edge without all three bytes",
     NoFillBefore Windows "bytes before byte_offset do not read as zero",
     NoFillBehind Windows "bytes behind those lent do not read as zero",
@@ -287,8 +287,8 @@ impl Fault {
                     out[k as usize] = b'T';
                 }
             }
-            Fault::LongRunCut if alphabet == 0 && words[0] == 0 && start % 4 == 0 && end.saturating_sub(start) >= 256 => {
-                out[252..256].copy_from_slice(&before[252..256])
+            Fault::LongRunCut if alphabet == 0 && words[0] == 0 && end.saturating_sub(start) >= 512 => {
+                out[508..512].copy_from_slice(&before[508..512])
             }
             Fault::BlockAtEdge if alphabet == 1 && words[0] == 0 => block_at_edge(call, out),
             Fault::WindowLimit if end == LIMIT && start < end && words[0] != 8 => refuse(2, call, before, words, out),

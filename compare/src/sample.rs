@@ -20,7 +20,7 @@ fn lines(entry: Entry) -> usize {
 
 /// By how many bytes a call lends, as text or as output memory, whichever is more: the most bytes of its class, and the
 /// most lines of a group of that class. An entry point has several groups in each: one for each refusal in each
-/// alphabet, and more. From 256 bases on the port may read Dna2bit by whole bytes.
+/// alphabet, and more. From 64 bases on the port may read Dna2bit by vectors.
 const CLASSES: [(usize, usize); 3] = [(40, 60), (255, 3), (320, 2)];
 
 /// Some calls of a group, each of those offered as likely as another, and how many were offered.

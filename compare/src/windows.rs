@@ -92,11 +92,11 @@ fn every_window(check: &mut Checker, random: &mut Random, alphabet: u64) -> Go {
     Ok(())
 }
 
-/// Windows of every length up to some that are read in bulk, from every base of a byte or block on: lent the bytes that
-/// cover them, one fewer at either end, and one more.
+/// Windows of every length up to some that are read in bulk, and around the length from which Dna2bit is read by whole
+/// bytes, from every base of a byte or block on: lent the bytes that cover them, one fewer at either end, and one more.
 fn every_length(check: &mut Checker, random: &mut Random, alphabet: u64) -> Go {
     for start in 8..16 {
-        for end in start..=start + 330 {
+        for end in (start..=start + 330).chain(start + 505..=start + 530) {
             let low = start * model::width(alphabet) / 8;
             let high = (end * model::width(alphabet)).div_ceil(8);
             let (byte_offset, behind) = random.pick(&[(low, high), (low, high - 1), (low + 1, high), (low, high + 1)]);

@@ -13,9 +13,9 @@ use support::random::Random;
 const HEADER: &str = include_str!("../../../include/fantailclock.h");
 const CHOICES: [Folding; 2] = [Folding::Off, Folding::On];
 
-/// Lengths around every block and word, around the run that is read by whole bytes, and those that fill a page.
+/// Lengths around every block and word, around those from which Dna2bit is read by whole bytes, and those that fill a page.
 fn lengths() -> impl Iterator<Item = usize> {
-    (0..=72).chain(253..=260).chain([4095, 4096])
+    (0..=72).chain(509..=516).chain([4095, 4096])
 }
 
 /// Memory that is a byte short, just enough, and more than enough for so many bytes.
