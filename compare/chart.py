@@ -70,10 +70,10 @@ def legend(drawing, title, subtitle, pairs):
         x += 175
     drawing.line(x - 40, 49, 64, GOAL, 3)
     drawing.text(x - 33, 60, "goal: the bar ends on it or left of it", 10)
-    for line, words in enumerate(pairs):
+    for line, words in enumerate(reversed(pairs)):
         for at, fill in enumerate(COPY):
-            drawing.box(x + 190, 36 + 14 * line + 6 * at, 12, 5, fill)
-        drawing.text(x + 207, 46 + 14 * line, words, 10)
+            drawing.box(x + 190, 50 - 14 * line + 6 * at, 12, 5, fill)
+        drawing.text(x + 207, 60 - 14 * line, words, 10)
     drawing.y = 70
 
 

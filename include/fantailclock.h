@@ -6,15 +6,20 @@
  *
  * Refusals. `refusal` is 0 for an accepted call, else a number of those below (FC_REFUSED_..). On a refusal
  *   - no byte of output memory changes;
- *   - every further number is 0, but for what 5 and 7 tell: with 5 `position` and `byte` are those of the first non-member, with 7 `outstanding` is the
- *     number of bases still to come;
+ *   - every further number is 0, but for what 5 and 7 tell: with 5 `position` and `byte` are those of the first non-member and `bad_count` is the number of all
+ *     non-members, with 7 `outstanding` is the number of bases still to come;
  *   - `next`, where the answer has one, is the state that was handed in;
  *   - fc_guesser_guess, fc_encoder_finalize and fc_stream_end hand no state back, refused or not: it went in by value, and the caller still holds it;
  *   - a start has no state to hand back: it echoes its arguments in `next` as they came, with zeros beside them, so that this state is refused again.
  *
  * States. They are plain numbers, and every call judges the one that it gets. An `alphabet` above 5 is refused by 8, before all else. A state that no
  * guesser, encoder or stream can be in is unsound, and is refused by 1. `has_bad` is 0 or 1: a state in which it is more is unsound and refused by 1, and so is
- * one with a `pending`, a `pending_bits` or (where `has_bad` is 1) a `bad_byte` above 255, and one with a `fold` above 1.
+ * one with a `pending`, a `pending_bits` or (where `has_bad` is 1) a `bad_byte` above 255, and one with a `fold` above 1. `bad_count` is 0 exactly
+ * where `has_bad` is 0, and elsewhere at most the symbols seen from `bad_position` on, seen - bad_position: a state with any other count is unsound.
+ *
+ * Non-members. A byte that is no symbol of the alphabet, taken by the choice to fold, is a non-member, and a text that has one is refused by 5. A position
+ * alone does not tell a stray letter from a wrong file; `bad_count`, beside the length of the text, does. In pieces it counts over all accepted pieces, and a
+ * sound state's count is believed: the next one is that count plus the piece's non-members. A refused piece is not counted.
  *
  * Folding. Whoever starts a guesser or an encoder, or guesses or packs a whole text, chooses by `fold`: 0 takes every byte as it is, any other number folds.
  * With folding a byte 61 to 7A hexadecimal, a to z, has the code and the membership of its uppercase letter in the four packed alphabets, FC_DNA2BIT to
@@ -37,7 +42,7 @@ extern "C" {
 #endif
 
 /* The version of this header's structs. Compare it with fc_abi_version(), which tells the library's, when the program starts. */
-#define FC_ABI_VERSION 2
+#define FC_ABI_VERSION 3
 
 /* The alphabets. */
 enum { FC_DNA2BIT = 0, FC_DNA3BIT = 1, FC_DNA_IUPAC = 2, FC_PROTEIN = 3, FC_ASCII = 4, FC_UNKNOWN = 5 };
@@ -49,7 +54,7 @@ enum {
     FC_REFUSED_TOO_FAR = 2,      /* a position, or a number of symbols, above 2^60 */
     FC_REFUSED_UNCOVERED = 3,    /* bytes of the window's range are not lent */
     FC_REFUSED_SHORT_MEMORY = 4, /* the output memory is too short */
-    FC_REFUSED_NOT_MEMBER = 5,   /* a byte that is no symbol of the alphabet: `position` and `byte` */
+    FC_REFUSED_NOT_MEMBER = 5,   /* a byte that is no symbol of the alphabet: `position`, `byte` and `bad_count` */
     FC_REFUSED_BAD_SKIP = 6,     /* a skip above 7 */
     FC_REFUSED_OUTSTANDING = 7,  /* a stream that is not complete: `outstanding` */
     FC_REFUSED_NO_ALPHABET = 8,  /* no alphabet has this number */
@@ -63,15 +68,17 @@ typedef struct { uint64_t refusal, value; } fc_number;
 typedef struct { uint64_t refusal, count; } fc_count;
 
 typedef struct { uint64_t refusal, start, end; } fc_range;
-typedef struct { uint64_t refusal, count, position, byte; } fc_packed;
+
+/* position, byte, bad_count: the first non-member and the number of all of them where the refusal is 5, else 0. */
+typedef struct { uint64_t refusal, count, position, byte, bad_count; } fc_packed;
 
 /* A guesser's state: the mask of the alphabets that hold every byte seen, 16 to 31; whether it folds, 0 or 1. */
 typedef struct { uint64_t mask, fold; } fc_guesser;
 typedef struct { uint64_t refusal; fc_guesser next; } fc_guessing;
 
 /* An encoder's state: symbols seen; bits that fill no byte yet and their value; whether a byte was no member, 0 or 1, and the first such byte's position over
- * all pieces and its value as received (ignored where `has_bad` is 0); whether it folds, 0 or 1. */
-typedef struct { uint64_t alphabet, seen, pending_bits, pending, has_bad, bad_position, bad_byte, fold; } fc_encoder;
+ * all pieces and its value as received (both ignored where `has_bad` is 0); whether it folds, 0 or 1; how many bytes of all pieces were no members. */
+typedef struct { uint64_t alphabet, seen, pending_bits, pending, has_bad, bad_position, bad_byte, fold, bad_count; } fc_encoder;
 typedef struct { uint64_t refusal; fc_encoder next; } fc_encoder_started;
 typedef struct { uint64_t refusal, count; fc_encoder next; } fc_updated;
 
@@ -115,7 +122,7 @@ fc_number fc_guess_alphabet(uint64_t fold, const uint8_t *text, size_t len);
 fc_encoder_started fc_encoder_new(uint64_t alphabet, uint64_t fold);
 
 /* Packs a piece behind what pends and writes the bytes that it completes, `count` of them, at the front of `out`: (pending_bits + len * bits per symbol) / 8.
- * A byte that is no member counts as a symbol whose bits are all ones, and is reported by fc_encoder_finalize. Refuses by 8, 1, 2, 4. */
+ * A byte that is no member counts as a symbol whose bits are all ones; the next state counts it, and fc_encoder_finalize reports it. Refuses by 8, 1, 2, 4. */
 fc_updated fc_encoder_update(fc_encoder state, const uint8_t *piece, size_t len, uint8_t *out, size_t room);
 
 /* Writes the last byte, where bits pend, with zeros behind them; `count` is 0 or 1. It hands no state back: the caller still holds it.
@@ -129,7 +136,7 @@ static inline uint64_t fc_packed_length(uint64_t symbols, uint64_t bits) {
 }
 
 /* The whole packing of a text, folded unless `fold` is 0: fc_packed_length(len, bits per symbol) bytes. Refuses by 8, 2, 4, 5; on a refusal nothing is
- * written. */
+ * written, and 5 tells of all non-members of the text. */
 fc_packed fc_encode_sequence(uint64_t alphabet, uint64_t fold, const uint8_t *text, size_t len, uint8_t *out, size_t room);
 
 /* The bytes of a packed file that hold the bases from `start` to `end`, not including `end`; the same formula where start exceeds end. Refuses by 9, 2. */

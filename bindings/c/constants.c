@@ -72,6 +72,7 @@ static void hold_refusals(void) {
     hold("count with 5", text.count, 0);
     hold("position with 5", text.position, 2);
     hold("byte with 5", text.byte, 'N');
+    hold("bad_count with 5", text.bad_count, 1);
     hold("skip 7", fc_stream_new(FC_DNA2BIT, 7, 1).refusal, FC_ACCEPTED);
     hold("skip 8", fc_stream_new(FC_DNA2BIT, 8, 1).refusal, FC_REFUSED_BAD_SKIP);
     hold("an early end", ended.refusal, FC_REFUSED_OUTSTANDING);
@@ -79,6 +80,67 @@ static void hold_refusals(void) {
     hold("9 bits", range.refusal, FC_REFUSED_TOO_WIDE);
     hold("start with 9", range.start, 0);
     hold("end with 9", range.end, 0);
+}
+
+/* What the header says of `bad_count`: in the answers of the calls that pack, over pieces, after a refused piece, and in a state with the three numbers that
+ * belong to it. */
+static void hold_bad_count(void) {
+    static const struct { uint64_t has_bad, position, byte, count, refusal; } states[] = {
+        {0, 0, 0, 0, FC_ACCEPTED},
+        {0, 9, 'A', 0, FC_ACCEPTED},
+        {0, 0, 0, 1, FC_REFUSED_UNSOUND},
+        {0, 4, 'N', 1, FC_REFUSED_UNSOUND},
+        {0, 0, 0, (uint64_t)1 << 32, FC_REFUSED_UNSOUND},
+        {1, 4, 'N', 0, FC_REFUSED_UNSOUND},
+        {1, 4, 'N', 1, FC_REFUSED_NOT_MEMBER},
+        {1, 4, 'N', 4, FC_REFUSED_NOT_MEMBER},
+        {1, 4, 'N', 5, FC_REFUSED_UNSOUND},
+        {1, 4, 'N', ((uint64_t)1 << 32) + 4, FC_REFUSED_UNSOUND},
+        {1, 4, 'A', 4, FC_REFUSED_UNSOUND},
+        {1, 0, 'N', 8, FC_REFUSED_NOT_MEMBER},
+        {1, 7, 'N', 1, FC_REFUSED_NOT_MEMBER},
+        {1, 7, 'N', 2, FC_REFUSED_UNSOUND},
+        {1, 8, 'N', 1, FC_REFUSED_UNSOUND},
+        {1, 9, 'N', UINT64_MAX, FC_REFUSED_UNSOUND},
+        {2, 4, 'N', 0, FC_REFUSED_UNSOUND},
+        {2, 4, 'N', 4, FC_REFUSED_UNSOUND},
+        {UINT64_MAX, UINT64_MAX, UINT64_MAX, UINT64_MAX, FC_REFUSED_UNSOUND},
+    };
+    uint8_t out[8];
+    for (size_t i = 0; i < sizeof states / sizeof *states; i++) {
+        fc_encoder state = {FC_DNA2BIT, 8, 0, 0, states[i].has_bad, states[i].position, states[i].byte, 0, states[i].count};
+        int told = states[i].refusal == FC_REFUSED_NOT_MEMBER;
+        fc_packed last = fc_encoder_finalize(state, out, sizeof out);
+        hold("a state's count, finalize", last.refusal, states[i].refusal);
+        hold("its position", last.position, told ? states[i].position : 0);
+        hold("its byte", last.byte, told ? states[i].byte : 0);
+        hold("its count", last.bad_count, told ? states[i].count : 0);
+        fc_updated step = fc_encoder_update(state, of("NATN"), 4, out, sizeof out);
+        hold("a state's count, update", step.refusal, states[i].refusal == FC_REFUSED_UNSOUND ? FC_REFUSED_UNSOUND : FC_ACCEPTED);
+        hold("the next count", step.next.bad_count, states[i].count + (step.refusal ? 0 : 2));
+    }
+    fc_encoder state = fc_encoder_new(FC_DNA2BIT, 1).next;
+    hold("no count at the start", state.bad_count, 0);
+    state = fc_encoder_update(state, of("acgtac"), 6, out, sizeof out).next;
+    hold("no count of folded members", state.bad_count, 0);
+    state = fc_encoder_update(state, of("gnnt"), 4, out, sizeof out).next;
+    hold("two in a piece", state.bad_count, 2);
+    fc_updated step = fc_encoder_update(state, of("NNNNNNNN"), 8, out, 1);
+    hold("short memory", step.refusal, FC_REFUSED_SHORT_MEMORY);
+    hold("a refused piece is not counted", step.next.bad_count, 2);
+    state = fc_encoder_update(state, of("aNc{t"), 5, out, sizeof out).next;
+    fc_packed last = fc_encoder_finalize(state, out, 0);
+    hold("four in all, refusal", last.refusal, FC_REFUSED_NOT_MEMBER);
+    hold("four in all, position", last.position, 7);
+    hold("four in all, byte", last.byte, 'n');
+    hold("four in all", last.bad_count, 4);
+    hold("all of a whole text", fc_encode_sequence(FC_DNA2BIT, 1, of("acgtacgnntaNc{t"), 15, out, sizeof out).bad_count, 4);
+    hold("all of it unfolded", fc_encode_sequence(FC_DNA2BIT, 0, of("acgtacgnntaNc{t"), 15, out, sizeof out).bad_count, 15);
+    hold("none with 0", fc_encode_sequence(FC_DNA2BIT, 0, of("ACGT"), 4, out, sizeof out).bad_count, 0);
+    hold("none with 4", fc_encode_sequence(FC_DNA2BIT, 0, of("NNNN"), 4, out, 0).bad_count, 0);
+    hold("none with 8", fc_encode_sequence(FC_UNKNOWN + 1, 0, of("NNNN"), 4, out, sizeof out).bad_count, 0);
+    hold("none in Ascii", fc_encode_sequence(FC_ASCII, 0, of("NNNN"), 4, out, sizeof out).bad_count, 0);
+    hold("a refused start", fc_encoder_new(FC_UNKNOWN + 1, 7).next.bad_count, 0);
 }
 
 /* What the header says of `fold`: as an argument, in a state, in the answers. */
@@ -150,6 +212,7 @@ int main(void) {
     hold("the version", fc_abi_version(), FC_ABI_VERSION);
     hold_alphabets();
     hold_refusals();
+    hold_bad_count();
     hold_folding();
     hold_statuses();
     hold_lengths();

@@ -1,5 +1,6 @@
 /*
- * Packs a text, one with lowercase letters too, fetches a window of it by byte range and covered read, and streams the same window byte by byte.
+ * Packs a text, one with lowercase letters too, tells a stray letter from a wrong file by the number of bytes that are no members, fetches a window by byte range
+ * and covered read, and streams the same window byte by byte.
  *
  *     cc -std=c11 -Iinclude bindings/c/example.c target/staticlib/libfantailclock.a -o example && ./example
  *
@@ -19,7 +20,8 @@ static size_t pack(uint64_t alphabet, uint64_t fold, const uint8_t *text, size_t
     fc_packed packed = fc_encode_sequence(alphabet, fold, text, len, out, room);
     printf("%.*s %.*s:", (int)named.count, (const char *)name, (int)len, (const char *)text);
     if (packed.refusal != 0) {
-        printf(" refused %" PRIu64 ", position %" PRIu64 ", byte %02" PRIX64 "\n", packed.refusal, packed.position, packed.byte);
+        printf(" refused %" PRIu64 ", position %" PRIu64 ", byte %02" PRIX64 ", ", packed.refusal, packed.position, packed.byte);
+        printf("%" PRIu64 " of %zu are no members\n", packed.bad_count, len);
         return 0;
     }
     for (uint64_t i = 0; i < packed.count; i++)
@@ -59,11 +61,13 @@ static void stream(uint64_t alphabet, const uint8_t *file, uint64_t start, uint6
 int main(void) {
     static const uint8_t text[] = {'A', 'C', 'G', 'T', 'N', 'R', 'Y', 'U'};
     static const uint8_t strange[] = {'A', 'C', 'N', 'T'};
+    static const uint8_t protein[] = {'M', 'K', 'A', 'L', 'E', '*'};
     static const uint8_t masked[] = {'A', 'C', 'g', 't', 'n'};
     uint8_t file[16];
     uint64_t alphabet = fc_guess_alphabet(0, text, sizeof text).value;
 
     pack(FC_DNA2BIT, 0, strange, sizeof strange, file, sizeof file);
+    pack(FC_DNA2BIT, 0, protein, sizeof protein, file, sizeof file);
     pack(FC_DNA2BIT, 0, text, 4, file, sizeof file);
     pack(fc_guess_alphabet(0, masked, 4).value, 0, masked, 4, file, sizeof file);
     pack(fc_guess_alphabet(1, masked, 4).value, 1, masked, 4, file, sizeof file);

@@ -25,10 +25,12 @@ typedef void call(given g, lent in, memory out, uint64_t *answer);
     } while (0)
 #define CALL(name) static void name(given g, lent in, memory out, uint64_t *answer)
 
-/* States under way, so that bits pend. A stream with more than 7 of them is not sound, nor is a state that has 2 for its choice, and its calls are refused. */
+/* States under way, so that bits pend. A stream with more than 7 of them is not sound, nor is a state that has 2 for its choice, or a non-member where there can be
+ * none, and its calls are refused. */
 static fc_encoder encoder(given g) {
     uint64_t bits = fc_bits_per_symbol(g.alphabet).value;
-    fc_encoder state = {g.alphabet, g.seen, g.seen * bits % 8, 0, 0, 0, 0, g.fold};
+    uint64_t bad = g.start % 2; /* by the window: with a non-member, the first symbol seen and the only one */
+    fc_encoder state = {g.alphabet, g.seen, g.seen * bits % 8, 0, bad, 0, '{', g.fold, bad};
     return state;
 }
 

@@ -35,19 +35,23 @@ typedef struct call {
 
 typedef PyObject *const *arguments;
 
-/* Raises a refusal, with its values. */
-static PyObject *refused(PyObject *module, uint64_t refusal, uint64_t first, uint64_t second) {
+/* Raises a refusal, with its values: position, byte and count of 5, bases of 7. */
+static PyObject *refused_with(PyObject *module, uint64_t refusal, unsigned long long first, unsigned long long second, unsigned long long third) {
     module_state *state = PyModule_GetState(module);
     if (state->refuse == NULL) {
         PyErr_SetString(PyExc_SystemError, "refuse_by was not called");
         return NULL;
     }
-    PyObject *answer = PyObject_CallFunction(state->refuse, "KKK", (unsigned long long)refusal, (unsigned long long)first, (unsigned long long)second);
+    PyObject *answer = PyObject_CallFunction(state->refuse, "KKKK", (unsigned long long)refusal, first, second, third);
     if (answer != NULL) {
         Py_DECREF(answer);
         PyErr_SetString(PyExc_SystemError, "a refusal was not raised");
     }
     return NULL;
+}
+
+static PyObject *refused(PyObject *module, uint64_t refusal) {
+    return refused_with(module, refusal, 0, 0, 0);
 }
 
 static int counted(Py_ssize_t given, Py_ssize_t wanted) {
@@ -111,7 +115,7 @@ static fc_packed made(call *c, uint8_t *out, size_t room) {
 }
 
 static PyObject *refused_call(call *c, fc_packed answer) {
-    return refused(c->module, answer.refusal, answer.position, answer.byte);
+    return refused_with(c->module, answer.refusal, answer.position, answer.byte, answer.bad_count);
 }
 
 /* New memory for a call that writes so many bytes. A long one is first made with none, so that one that is refused for another reason is over before memory
@@ -125,7 +129,7 @@ static PyObject *room_for(call *c, uint64_t room) {
     PyObject *out = room <= PY_SSIZE_T_MAX ? PyBytes_FromStringAndSize(NULL, (Py_ssize_t)room) : NULL;
     if (out != NULL) return out;
     PyErr_Clear();
-    return refused(c->module, FC_REFUSED_SHORT_MEMORY, 0, 0);
+    return refused(c->module, FC_REFUSED_SHORT_MEMORY);
 }
 
 /* What a call writes, as a new bytes object. */
@@ -177,14 +181,14 @@ static PyObject *bits_per_symbol(PyObject *module, PyObject *alphabet) {
     uint64_t a;
     if (!number(alphabet, &a)) return NULL;
     fc_number answer = fc_bits_per_symbol(a);
-    return answer.refusal != 0 ? refused(module, answer.refusal, 0, 0) : from_number(answer.value);
+    return answer.refusal != 0 ? refused(module, answer.refusal) : from_number(answer.value);
 }
 
 static PyObject *contains(PyObject *module, arguments given, Py_ssize_t count) {
     uint64_t alphabet, byte;
     if (!counted(count, 2) || !number(given[0], &alphabet) || !number(given[1], &byte)) return NULL;
     fc_number answer = fc_contains(alphabet, byte);
-    return answer.refusal != 0 ? refused(module, answer.refusal, 0, 0) : PyBool_FromLong(answer.value == 1);
+    return answer.refusal != 0 ? refused(module, answer.refusal) : PyBool_FromLong(answer.value == 1);
 }
 
 static PyObject *display_name(PyObject *module, PyObject *alphabet) {
@@ -192,7 +196,7 @@ static PyObject *display_name(PyObject *module, PyObject *alphabet) {
     uint8_t name[8];
     if (!number(alphabet, &a)) return NULL;
     fc_count answer = fc_display_name(a, name, sizeof name);
-    return answer.refusal != 0 ? refused(module, answer.refusal, 0, 0) : PyUnicode_DecodeASCII((char *)name, (Py_ssize_t)answer.count, NULL);
+    return answer.refusal != 0 ? refused(module, answer.refusal) : PyUnicode_DecodeASCII((char *)name, (Py_ssize_t)answer.count, NULL);
 }
 
 static PyObject *guess_alphabet(PyObject *module, arguments given, Py_ssize_t count) {
@@ -223,14 +227,14 @@ static PyObject *guesser_update(PyObject *module, arguments given, Py_ssize_t co
     fc_guessing answer = fc_guesser_update(state, lent.buf, (size_t)lent.len);
     if (thread != NULL) PyEval_RestoreThread(thread);
     PyBuffer_Release(&lent);
-    return answer.refusal != 0 ? refused(module, answer.refusal, 0, 0) : from_state(&answer.next, sizeof answer.next);
+    return answer.refusal != 0 ? refused(module, answer.refusal) : from_state(&answer.next, sizeof answer.next);
 }
 
 static PyObject *guesser_guess(PyObject *module, PyObject *from) {
     fc_guesser state;
     if (!taken(from, &state, sizeof state)) return NULL;
     fc_number answer = fc_guesser_guess(state);
-    return answer.refusal != 0 ? refused(module, answer.refusal, 0, 0) : from_number(answer.value);
+    return answer.refusal != 0 ? refused(module, answer.refusal) : from_number(answer.value);
 }
 
 /* Packing */
@@ -258,7 +262,7 @@ static PyObject *encoder_new(PyObject *module, arguments given, Py_ssize_t count
     uint64_t alphabet, fold;
     if (!counted(count, 2) || !number(given[0], &alphabet) || !choice(given[1], &fold)) return NULL;
     fc_encoder_started answer = fc_encoder_new(alphabet, fold);
-    return answer.refusal != 0 ? refused(module, answer.refusal, 0, 0) : from_state(&answer.next, sizeof answer.next);
+    return answer.refusal != 0 ? refused(module, answer.refusal) : from_state(&answer.next, sizeof answer.next);
 }
 
 static fc_packed make_update(call *c, uint8_t *out, size_t room) {
@@ -302,7 +306,7 @@ static PyObject *byte_range_for_bases(PyObject *module, arguments given, Py_ssiz
     uint64_t start, end, bits;
     if (!counted(count, 3) || !number(given[0], &start) || !number(given[1], &end) || !number(given[2], &bits)) return NULL;
     fc_range answer = fc_byte_range_for_bases(start, end, bits);
-    if (answer.refusal != 0) return refused(module, answer.refusal, 0, 0);
+    if (answer.refusal != 0) return refused(module, answer.refusal);
     return Py_BuildValue("(KK)", (unsigned long long)answer.start, (unsigned long long)answer.end);
 }
 
@@ -354,7 +358,7 @@ static PyObject *stream_new(PyObject *module, arguments given, Py_ssize_t count)
     uint64_t alphabet, skip, budget;
     if (!counted(count, 3) || !number(given[0], &alphabet) || !number(given[1], &skip) || !number(given[2], &budget)) return NULL;
     fc_stream_started answer = fc_stream_new(alphabet, skip, budget);
-    return answer.refusal != 0 ? refused(module, answer.refusal, 0, 0) : from_state(&answer.next, sizeof answer.next);
+    return answer.refusal != 0 ? refused(module, answer.refusal) : from_state(&answer.next, sizeof answer.next);
 }
 
 static fc_streamed streamed(fc_stream state, const Py_buffer *source, uint8_t *out, size_t room) {
@@ -383,7 +387,7 @@ static PyObject *stream_read_into(PyObject *module, arguments given, Py_ssize_t 
     }
     PyBuffer_Release(&source);
     if (!lent) return NULL;
-    return answer.refusal != 0 ? refused(module, answer.refusal, 0, 0) : step(from_number(answer.written), answer);
+    return answer.refusal != 0 ? refused(module, answer.refusal) : step(from_number(answer.written), answer);
 }
 
 /* The most bases that a stream can write from so many source bytes, of `most` that were asked for. */
@@ -408,7 +412,7 @@ static PyObject *stream_read(PyObject *module, arguments given, Py_ssize_t count
     if (out == NULL) return NULL;
     if (answer.status == FC_FULL && answer.written < most) answer.status = FC_HUNGRY;
     PyObject *bases = out;
-    if (answer.refusal != 0) bases = refused(module, answer.refusal, 0, 0);
+    if (answer.refusal != 0) bases = refused(module, answer.refusal);
     else if (answer.written != room) bases = PyBytes_FromStringAndSize(PyBytes_AsString(out), (Py_ssize_t)answer.written);
     if (bases != out) Py_DECREF(out);
     return step(bases, answer);
@@ -418,7 +422,7 @@ static PyObject *stream_end(PyObject *module, PyObject *from) {
     fc_stream state;
     if (!taken(from, &state, sizeof state)) return NULL;
     fc_ended answer = fc_stream_end(state);
-    if (answer.refusal != 0) return refused(module, answer.refusal, answer.outstanding, 0);
+    if (answer.refusal != 0) return refused_with(module, answer.refusal, answer.outstanding, 0, 0);
     Py_RETURN_NONE;
 }
 

@@ -22,6 +22,17 @@ it every byte is taken as it is. The choice is part of a guesser's and an encode
     >>> fc.encode_sequence(fc.Alphabet.Dna2bit, b"ACgt", fold=True).hex()
     '9c'
 
+A text with a byte that is no symbol of the alphabet raises `NotMember`, which has the first such byte and the count of all of
+them; by the count a stray letter is told from a wrong file.
+
+    >>> for text in b"ACNT", b"ACDEFGHIKLMN":
+    ...     try:
+    ...         fc.encode_sequence(fc.Alphabet.Dna2bit, text)
+    ...     except fc.NotMember as refused:
+    ...         print(f"{refused.count} of {len(text)}: {refused}")
+    1 of 4: refused by 5: byte 4E at position 2 is no member, the only one
+    9 of 12: refused by 5: byte 44 at position 2 is no member, the first of 9
+
 The shared object is made by bindings/python/build; it is found there, beside this file, or where FANTAILCLOCK_SO says.
 Calls go through the extension module that stands beside it, or by ctypes where there is none, which is ten times as slow;
 `WAY` tells which, and FANTAILCLOCK_WAY (`extension` or `ctypes`) asks for one of them. Calls on more than a few thousand
@@ -51,7 +62,7 @@ if TYPE_CHECKING:
 else:
     Buffer = Any  # any object with contiguous bytes; collections.abc has a name for it from 3.12 on
 
-ABI_VERSION = 2
+ABI_VERSION = 3
 
 
 class Refused(Exception):
@@ -90,14 +101,16 @@ class ShortMemory(Refused):
 
 class NotMember(Refused):
     """The text's first byte that is no symbol of the alphabet: its `position`, over all pieces, and the `byte` as it was
-    received, folding or not."""
+    received, folding or not; and the `count` of all such bytes of the text, this one included. A position alone does not
+    tell a stray letter from a wrong file; the count, beside the text's length, does."""
 
     number = 5
 
-    def __init__(self, position: int, byte: int) -> None:
-        super().__init__(position, byte)
-        self.position, self.byte = position, byte
-        self.about = f"byte {byte:02X} at position {position} is no member"
+    def __init__(self, position: int, byte: int, count: int) -> None:
+        super().__init__(position, byte, count)
+        self.position, self.byte, self.count = position, byte, count
+        which = "the only one" if count == 1 else f"the first of {count}"
+        self.about = f"byte {byte:02X} at position {position} is no member, {which}"
 
 
 class BadSkip(Refused):
@@ -133,12 +146,13 @@ _REFUSALS = {
     refusal.number: refusal
     for refusal in (Unsound, TooFar, Uncovered, ShortMemory, NotMember, BadSkip, Outstanding, NoAlphabet, TooWide)
 }
+_TOLD = {NotMember: 3, Outstanding: 1}  # how many values a refusal tells; the others tell none
 
 
-def _refuse(number, first, second):
-    """Raises the refusal that has this number; the two values are position and byte of 5, bases and nothing of 7."""
+def _refuse(number, *values):
+    """Raises the refusal that has this number, with its values: position, byte and count of 5, bases of 7."""
     refusal = _REFUSALS[number]
-    raise refusal(first, second) if refusal is NotMember else refusal(first) if refusal is Outstanding else refusal()
+    raise refusal(*values[: _TOLD.get(refusal, 0)])
 
 
 # The C ABI: the structs and functions of include/fantailclock.h under the same names. Every number is 64 bits wide.
@@ -167,9 +181,9 @@ class fc_range(ctypes.Structure):
 
 
 class fc_packed(ctypes.Structure):
-    """The count of a packing; where it is refused by 5, the first non-member."""
+    """The count of a packing; where it is refused by 5, the first non-member and the number of all of them."""
 
-    _fields_ = _numbers("refusal", "count", "position", "byte")
+    _fields_ = _numbers("refusal", "count", "position", "byte", "bad_count")
 
 
 class fc_guesser(ctypes.Structure):
@@ -186,9 +200,11 @@ class fc_guessing(ctypes.Structure):
 
 class fc_encoder(ctypes.Structure):
     """An encoder's state: symbols seen, bits that fill no byte yet, the first byte that was no member, as received; whether
-    it folds, 0 or 1."""
+    it folds, 0 or 1; how many bytes were no members."""
 
-    _fields_ = _numbers("alphabet", "seen", "pending_bits", "pending", "has_bad", "bad_position", "bad_byte", "fold")
+    _fields_ = _numbers(
+        "alphabet", "seen", "pending_bits", "pending", "has_bad", "bad_position", "bad_byte", "fold", "bad_count"
+    )
 
 
 class fc_encoder_started(ctypes.Structure):
@@ -369,14 +385,13 @@ def _number(value):
     return value
 
 
-_VALUES = {fc_packed: ("position", "byte"), fc_ended: ("outstanding", "refusal")}  # the values that a refusal has
+_VALUES = {fc_packed: ("position", "byte", "bad_count"), fc_ended: ("outstanding",)}  # the values that a refusal has
 
 
 def _accepted(answer):
     """The answer of an accepted call; raises the refusal of any other, with its values."""
     if answer.refusal:
-        first, second = _VALUES.get(type(answer), ("refusal", "refusal"))
-        _refuse(answer.refusal, getattr(answer, first), getattr(answer, second))
+        _refuse(answer.refusal, *(getattr(answer, name) for name in _VALUES.get(type(answer), ())))
     return answer
 
 
@@ -653,9 +668,9 @@ def encode_sequence(alphabet: SupportsIndex, text: Buffer, *, fold: bool = False
 class SequenceEncoder:
     """Packs a text that comes in pieces: each `update` gives the bytes that its piece completes, `finalize` the last one
     where bits pend. With `fold` a byte a to z of any piece is packed as its uppercase letter, except in Ascii and Unknown. A
-    byte that is no member is reported by `finalize`, as it was received. A refused call leaves the encoder as it was; an
-    accepted `finalize` ends the text, and every call after it is a ValueError. A state that was kept (an `fc_encoder`) may
-    be handed in, and has its choice."""
+    byte that is no member is reported by `finalize`: the first as it was received, and how many there are in all pieces.
+    A refused call leaves the encoder as it was, its piece uncounted; an accepted `finalize` ends the text, and every call
+    after it is a ValueError. A state that was kept (an `fc_encoder`) may be handed in, and has its choice."""
 
     def __init__(
         self, alphabet: Optional[SupportsIndex] = None, state: Optional[fc_encoder] = None, *, fold: bool = False

@@ -44,10 +44,11 @@ class Encoders(unittest.TestCase):
         self.assertEqual(encoder.update(b"CGT"), b"\x9c")
         self.assertEqual(encoder.finalize(), b"")
         strange = fc.SequenceEncoder(Alphabet.Dna2bit)
-        strange.update(b"N")
-        for _ in range(2):
-            self.assertRaises(fc.NotMember, strange.finalize)
-            self.assertEqual(strange.update(b""), b"")
+        for count in 1, 2, 3:
+            self.assertEqual(strange.update(b"N"), b"")
+            with self.assertRaises(fc.NotMember) as caught:
+                strange.finalize()
+            self.assertEqual(caught.exception.count, count)
 
     def test_a_state_that_was_kept_is_open(self):
         encoder = fc.SequenceEncoder(Alphabet.Dna2bit)

@@ -82,6 +82,13 @@ def pack(alphabet, symbols):
     return bytes(int(codes[at : at + 8], 2) for at in range(0, len(codes), 8))
 
 
+def not_member(alphabet, fold, text):
+    """The refusal of a text that has non-members, with its values: the first as it was received, and how many there are; None
+    where all are members."""
+    strange = [at for at, byte in enumerate(taken(alphabet, fold, text)) if byte not in LISTS[alphabet]]
+    return (5, strange[0], text[strange[0]], len(strange)) if strange else None
+
+
 def unpack(alphabet, data, offset, start, end):
     """The bases from start to end of a file of which the data are the bytes from an offset on; other bytes are zero."""
     width, symbols = BITS[alphabet], LISTS[alphabet]
@@ -98,7 +105,7 @@ def unpack(alphabet, data, offset, start, end):
 def refused(refusal):
     """A refusal with its values, as the table writes it."""
     if isinstance(refusal, fc.NotMember):
-        return f"refused 5 {refusal.position} {refusal.byte:02X}"
+        return f"refused 5 {refusal.position} {refusal.byte:02X} {refusal.count}"
     if isinstance(refusal, fc.Outstanding):
         return f"refused 7 {refusal.bases}"
     return f"refused {refusal.number}"
@@ -197,7 +204,7 @@ class Worked(unittest.TestCase):
             self.assertTrue(answers, line)
             self.assertEqual(answers, [expected] * len(answers), line)
             count, folding = count + 1, folding + (words[0] == "folding")
-        self.assertEqual((count, folding), (43, 14))
+        self.assertEqual((count, folding), (56, 18))
 
     def test_names_numbers_and_bits(self):
         names = ["dna2bit", "dna3bit", "dnaio", "protein", "ASCII", "Unknown"]
@@ -249,7 +256,7 @@ class States(unittest.TestCase):
             self.assertEqual(guess, (refusal, None if refusal else place), line)
 
     def test_encoders(self):
-        for line, state, refusal in self.states("encoder", fc.fc_encoder, 106):
+        for line, state, refusal in self.states("encoder", fc.fc_encoder, 188):
             next_state = fc.fc_encoder.from_buffer_copy(state)
             if not refusal and not state.has_bad:
                 next_state.bad_position = next_state.bad_byte = 0  # ignored, and answered as zeros
@@ -272,7 +279,7 @@ class States(unittest.TestCase):
         self.assertEqual(out, PATTERN, line)
 
     def last_byte(self, line, state, refusal):
-        """Its refusal; else 5 with the first non-member; else the pending bits with zeros behind them."""
+        """Its refusal; else 5 with the first non-member and the count; else the pending bits with zeros behind them."""
         out, after, encoder = bytearray(PATTERN), bytearray(PATTERN), fc.SequenceEncoder(state=state)
         bad = not refusal and state.has_bad == 1
         expected = (refusal, None) if refusal else (5, None) if bad else (0, int(state.pending_bits > 0))
@@ -283,7 +290,8 @@ class States(unittest.TestCase):
         if bad:
             with self.assertRaises(fc.NotMember) as caught:
                 encoder.finalize()
-            self.assertEqual((caught.exception.position, caught.exception.byte), (state.bad_position, state.bad_byte))
+            told = caught.exception.position, caught.exception.byte, caught.exception.count
+            self.assertEqual(told, (state.bad_position, state.bad_byte, state.bad_count), line)
 
     def test_streams(self):
         for line, state, refusal in self.states("stream", fc.fc_stream, 35):
@@ -366,7 +374,8 @@ class Harness:
 
     def check(self, entry, about, data, room, expected, call):
         """The call with input and memory at either end of their pages. `expected` are the bytes at the front of the memory
-        afterwards, which the call counts, or the number of its refusal; every byte beside them stays."""
+        afterwards, which the call counts, or its refusal: the number, or the number and its values in a tuple; every byte
+        beside them stays."""
         self.entries.add(entry)
         for from_back in False, True:
             for to_back in False, True:
@@ -383,12 +392,13 @@ class Harness:
         try:
             answer = call(source, out)
         except fc.Refused as refusal:
-            answer = f"refused {refusal.number}"
+            answer = (refusal.number, *refusal.args)
         self.input.allow(READ_WRITE)
-        refused = isinstance(expected, int)
-        front, kept = self.output.place(to_back, room), b"" if refused else expected
+        kept = expected if isinstance(expected, bytes) else b""
+        wanted = (expected,) if isinstance(expected, int) else expected if isinstance(expected, tuple) else len(expected)
+        front = self.output.place(to_back, room)
         after = pattern * front + kept + pattern * (PAGE - front - len(kept))
-        self.test.assertEqual(answer, f"refused {expected}" if refused else len(expected), what)
+        self.test.assertEqual(answer, wanted, what)
         self.test.assertTrue(self.output.content() == after, (what, "memory is not as expected"))
 
 
@@ -428,9 +438,9 @@ class BetweenGuardPages(unittest.TestCase):
         for room in rooms(len(packed)):
             self.harness.check("fc_encode_sequence", about, text, room, fitting(packed, room),
                                lambda data, out: fc.encode_sequence_into(alphabet, data, out, fold=fold))
-        if text and len(LISTS[alphabet]) < 256:
-            strange = text[:-1] + (b"{" if fold else b"a")
-            self.harness.check("fc_encode_sequence", about, strange, len(text), 5,
+        stranger = b"{" if fold else b"a"
+        for strange in (text[:-1] + stranger, stranger * len(text)) if text and len(LISTS[alphabet]) < 256 else ():
+            self.harness.check("fc_encode_sequence", about, strange, len(text), not_member(alphabet, fold, strange),
                                lambda data, out: fc.encode_sequence_into(alphabet, data, out, fold=fold))
         for entry, function in ("fc_guess_alphabet", fc.guess_alphabet), ("fc_guesser_update", self.updated):
             self.harness.check(entry, about, text, 0, b"", lambda data, _: self.guess(function, fold, data))
@@ -749,7 +759,7 @@ class Forms(unittest.TestCase):
         self.assertEqual(encoder.update(b"T"), b"\x9c")
         with self.assertRaises(fc.NotMember) as caught:
             encoder.finalize()
-        self.assertEqual(str(caught.exception), "refused by 5: byte 4E at position 2 is no member")
+        self.assertEqual(str(caught.exception), "refused by 5: byte 4E at position 2 is no member, the only one")
 
     def test_every_refusal_has_its_exception(self):
         refusals = {

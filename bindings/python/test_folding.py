@@ -9,7 +9,7 @@ import unittest
 import fantailclock as fc
 import test_fantailclock as model
 from fantailclock import Alphabet
-from test_fantailclock import BITS, CHOICES, LISTS, PAGE, fitting, guessed, pack, rooms, soft_masked, taken
+from test_fantailclock import BITS, CHOICES, LISTS, PAGE, fitting, guessed, not_member, pack, rooms, soft_masked, taken
 
 try:
     import numpy
@@ -30,7 +30,7 @@ def told(call):
 def as_received(answer, text):
     """The answer for an uppercased text, with the byte that was received in place of the uppercase one."""
     if isinstance(answer, tuple) and answer[0] == fc.NotMember.number:
-        return answer[0], answer[1], text[answer[1]]
+        return answer[0], answer[1], text[answer[1]], answer[3]
     return answer
 
 
@@ -133,7 +133,7 @@ class SoftMasked(Texts, unittest.TestCase):
                 for byte in range(256):
                     one = bytes([byte])
                     stands = bytes([byte - 32]) if fold and alphabet < 4 and 0x61 <= byte <= 0x7A else one
-                    expected = pack(alphabet, stands) if stands in LISTS[alphabet] else (5, 0, byte)
+                    expected = pack(alphabet, stands) if stands in LISTS[alphabet] else (5, 0, byte, 1)
                     self.assertEqual(told(lambda: fc.encode_sequence(alphabet, one, fold=fold)), expected)
                     encoder = fc.SequenceEncoder(alphabet, fold=fold)
                     written, last = encoder.update(one), told(encoder.finalize)
@@ -150,8 +150,9 @@ class SoftMasked(Texts, unittest.TestCase):
             self.assertEqual(fc.encode_sequence(0, text, fold=True), fc.encode_sequence(0, text.upper()))
             with self.assertRaises(fc.NotMember) as caught:
                 fc.encode_sequence(0, text + b"nN", fold=True)
-            self.assertEqual((caught.exception.position, caught.exception.byte), (length, ord("n")))
-            self.assertEqual(str(caught.exception), f"refused by 5: byte 6E at position {length} is no member")
+            refused = caught.exception
+            self.assertEqual((refused.position, refused.byte, refused.count), (length, ord("n"), 2))
+            self.assertEqual(str(refused), f"refused by 5: byte 6E at position {length} is no member, the first of 2")
 
     def test_reads_know_nothing_of_the_choice(self):
         packed = fc.encode_sequence(Alphabet.Dna3bit, b"acgtNRyu", fold=True)
@@ -164,8 +165,8 @@ class SoftMasked(Texts, unittest.TestCase):
             self.assertEqual(fc.guess_alphabet(b"acgt", **choice), Alphabet.Ascii)
             for alphabet in PACKED:
                 with self.assertRaises(fc.NotMember) as caught:
-                    fc.encode_sequence(alphabet, b"Aa", **choice)
-                self.assertEqual((caught.exception.position, caught.exception.byte), (1, ord("a")))
+                    fc.encode_sequence(alphabet, b"AaA", **choice)
+                self.assertEqual(caught.exception.args, (1, ord("a"), 1))
             self.assertEqual(fc.SequenceEncoder(0, **choice).state.fold, 0)
             self.assertEqual(fc.Guesser(**choice).state.fold, 0)
 
@@ -188,10 +189,10 @@ class Choice(unittest.TestCase):
                 for alphabet in Alphabet:
                     fresh = fc.fc_encoder(alphabet, fold=folds)
                     self.assertEqual(bytes(fc.SequenceEncoder(alphabet, fold=fold).state), bytes(fresh))
-                expected = b"\x9c" if folds else (5, 0, ord("a"))
+                expected = b"\x9c" if folds else (5, 0, ord("a"), 4)
                 self.assertEqual(told(lambda: fc.encode_sequence(0, b"acgt", fold=fold)), expected)
                 out = bytearray(1)
-                expected = (1, b"\x9c") if folds else ((5, 0, ord("a")), b"\0")
+                expected = (1, b"\x9c") if folds else ((5, 0, ord("a"), 4), b"\0")
                 self.assertEqual((told(lambda: fc.encode_sequence_into(0, b"acgt", out, fold=fold)), out), expected)
 
     def test_what_is_neither_true_nor_false(self):
@@ -242,7 +243,7 @@ class Choice(unittest.TestCase):
             self.assertRaises(TypeError, fc.SequenceEncoder, 0, kept)
             again, guessing = fc.SequenceEncoder(state=kept), fc.Guesser(state=seen)
             self.assertEqual(again.update(b"cgt"), b"\x9c" if fold else b"\xbf")
-            self.assertEqual(told(again.finalize), b"" if fold else (5, 1, ord("c")))
+            self.assertEqual(told(again.finalize), b"" if fold else (5, 1, ord("c"), 3))
             guessing.update(b"cgt")
             self.assertEqual(guessing.guess(), Alphabet.Dna2bit if fold else Alphabet.Ascii)
 
@@ -282,8 +283,8 @@ class Choice(unittest.TestCase):
             self.assertEqual(told(call), (refusal,))
             self.assertEqual((bytes(encoder.state), out), (bytes(state), b"\xc3" * 9))
 
-    def test_states_of_the_version_before(self):
-        for short, call in (bytes(8), "guesser_guess"), (bytes(56), "encoder_finalize"):
+    def test_states_of_the_versions_before(self):
+        for short, call in (bytes(8), "guesser_guess"), (bytes(56), "encoder_finalize"), (bytes(64), "encoder_finalize"):
             self.assertRaises(ValueError, getattr(fc._calls, call), short)
 
 
@@ -295,7 +296,7 @@ class BetweenGuardPages(unittest.TestCase):
 
     def text(self, alphabet):
         text = bytearray(self.random.choices(LISTS[alphabet], k=self.random.choice((0, 1, 7, 8, 9, 63, 64, 65, 300, PAGE))))
-        if text and self.random.random() < 0.3:
+        for _ in range(self.random.choice((0, 0, 0, 1, 3, len(text))) if text else 0):
             text[self.random.randrange(len(text))] = self.random.randrange(256)
         return soft_masked(self.random, text)
 
@@ -316,10 +317,9 @@ class BetweenGuardPages(unittest.TestCase):
         return guesser.guess()
 
     def whole(self, alphabet, fold, text):
-        plain = taken(alphabet, fold, text)
-        packed, strange = pack(alphabet, plain), not set(plain) <= set(LISTS[alphabet])
+        packed, strange = pack(alphabet, taken(alphabet, fold, text)), not_member(alphabet, fold, text)
         for room in rooms(len(packed)):
-            expected = 4 if room < len(packed) else 5 if strange else packed
+            expected = 4 if room < len(packed) else strange or packed
             self.harness.check("fc_encode_sequence", (alphabet.name, fold, text), text, room, expected,
                                lambda data, out: fc.encode_sequence_into(alphabet, data, out, fold=fold))
 
@@ -331,9 +331,9 @@ class BetweenGuardPages(unittest.TestCase):
             self.harness.check("fc_encoder_update", about, text[before:], room, fitting(packed[first:last], room),
                                lambda data, out: fc.SequenceEncoder(state=encoder.state).update_into(data, out))
         encoder.update(text[before:])
-        strange = not set(plain) <= set(LISTS[alphabet])
+        strange = not_member(alphabet, fold, text)
         for room in rooms(len(packed) - last):
-            self.harness.check("fc_encoder_finalize", about, b"", room, 5 if strange else fitting(packed[last:], room),
+            self.harness.check("fc_encoder_finalize", about, b"", room, strange or fitting(packed[last:], room),
                                lambda _, out: fc.SequenceEncoder(state=encoder.state).finalize_into(out))
 
 

@@ -53,18 +53,20 @@ class Null(unittest.TestCase):
     def test_packing(self):
         for alphabet, fold in itertools.product(Alphabet, (0, 1)):
             state = lib.fc_encoder_new(alphabet, fold).next
-            self.same("fc_encode_sequence", 0, 0, 0, 0, first=[alphabet, fold])
-            self.same("fc_encode_sequence", 0, 0, 0, 0, first=[alphabet, fold], room=9)
-            self.same("fc_encode_sequence", 4, 0, 0, 0, first=[alphabet, fold], source=b"A")
+            self.same("fc_encode_sequence", 0, 0, 0, 0, 0, first=[alphabet, fold])
+            self.same("fc_encode_sequence", 0, 0, 0, 0, 0, first=[alphabet, fold], room=9)
+            self.same("fc_encode_sequence", 4, 0, 0, 0, 0, first=[alphabet, fold], source=b"A")
             self.same("fc_encoder_update", 0, 0, first=[state])
             self.assertEqual(bytes(self.last.next), bytes(state))
             self.same("fc_encoder_update", 0, 0, first=[state], room=9)
             self.same("fc_encoder_update", 4, 0, first=[state], source=b"ACGT")
             self.assertEqual(bytes(self.last.next), bytes(state))
-            self.same("fc_encoder_finalize", 0, 0, 0, 0, first=[state], source=None)
+            self.same("fc_encoder_finalize", 0, 0, 0, 0, 0, first=[state], source=None)
             if alphabet.bits_per_symbol < 8:
                 pending = lib.fc_encoder_update(state, b"A", 1, None, 0).next
-                self.same("fc_encoder_finalize", 4, 0, 0, 0, first=[pending], source=None)
+                self.same("fc_encoder_finalize", 4, 0, 0, 0, 0, first=[pending], source=None)
+                strange = lib.fc_encoder_update(pending, b"{", 1, ctypes.create_string_buffer(1), 1).next
+                self.same("fc_encoder_finalize", 5, 0, 1, ord("{"), 1, first=[strange], source=None)
 
     def test_reads(self):
         for alphabet in Alphabet:

@@ -205,6 +205,7 @@ class Kept(unittest.TestCase):
     def calls(self):
         number, source, out = Index(1 << 40), bytearray(b"ACGTACGT" * 700), bytearray(9000)
         state = fc._calls.encoder_new(0, True)
+        strange = bytes(fc.fc_encoder(0, 1 << 40, has_bad=1, bad_byte=ord("N"), bad_count=1 << 40))
         for name, given in (
             ("decode_covered", (1, source, 0, 2, 6)),
             ("decode_covered", (1, source, 0, 2, 12_000)),
@@ -219,6 +220,8 @@ class Kept(unittest.TestCase):
             ("encode_sequence", (0, False, source)),
             ("encode_sequence", (0, True, source)),
             ("encode_sequence", (0, True, b"ACNT")),
+            ("encode_sequence", (0, True, bytearray(b"N" * 9000))),
+            ("encode_sequence_into", (0, True, bytearray(b"N" * 9000), out)),
             ("encode_sequence", (number, [], source)),
             ("encode_sequence", (0, Undecided(), source)),
             ("encoder_new", (0, [0])),
@@ -232,6 +235,8 @@ class Kept(unittest.TestCase):
             ("encoder_update_into", (state, source, out)),
             ("encoder_update_into", (state, source, source)),
             ("encoder_finalize", (state,)),
+            ("encoder_finalize", (strange,)),
+            ("encoder_finalize_into", (strange, out)),
             ("encoder_finalize_into", (state, b"")),
             ("byte_range_for_bases", (0, number, 2)),
             ("byte_range_for_bases", (0, 1 << 61, 2)),
@@ -312,7 +317,9 @@ class Alike(unittest.TestCase):
             return fc.fc_guesser(small[0] + 12, fold)
         if kind == "s":
             return fc.fc_stream(small[0], small[1], small[2] * 7, 0, 0) if small[6] > 2 else fc.fc_stream(*small[:5])
-        return fc.fc_encoder(*([small[0], small[1] * 8] + [0] * 5 if small[6] > 2 else small), fold)
+        if small[6] > 6:  # of Dna2bit and Dna3bit with non-members, most of them sound
+            return fc.fc_encoder(small[0] % 2, 8 * small[1] + 8, 0, 0, 1, small[2], chance.choice(b"{{{A"), fold % 2, small[3])
+        return fc.fc_encoder(*([small[0], small[1] * 8] + [0] * 5 if small[6] > 2 else small), fold, small[5] // 9)
 
     def told(self, calls, name, made):
         given = [make() for make in made]
@@ -336,6 +343,7 @@ class Alike(unittest.TestCase):
                 self.assertEqual(one, other, (name, [make() for make in made]))
                 kinds.add(one[0] if isinstance(one[0], (type, str)) else type(one[0]))
         self.assertTrue({TypeError, BufferError, OverflowError, ZeroDivisionError, bytes, int, tuple} <= kinds, kinds)
+        self.assertTrue(any("is no member, the first of" in str(kind) for kind in kinds), kinds)
 
     @unittest.skipUnless(fc.WAY == "extension", "the extension's own questions")
     def test_arguments_of_the_extension(self):

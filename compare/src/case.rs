@@ -49,7 +49,8 @@ macro_rules! entries {
 }
 
 const GUESSER: &str = "mask fold";
-const ENCODER: &str = "alphabet seen pending_bits pending has_bad bad_position bad_byte fold";
+const ENCODER: &str = "alphabet seen pending_bits pending has_bad bad_position bad_byte fold bad_count";
+const PACKED: &str = "refusal count position byte bad_count";
 const STREAM: &str = "alphabet skip budget pending_bits pending";
 const WINDOW: &str = "alphabet byte_offset start end";
 
@@ -66,10 +67,10 @@ entries! {
 
     EncoderNew: "encoder_new" Packing ("alphabet fold"; "") -> ("refusal"; ENCODER),
     EncoderUpdate: "encoder_update" Packing (ENCODER; "piece out") -> ("refusal count"; ENCODER),
-    EncoderFinalize: "encoder_finalize" Packing (ENCODER; "out") -> ("refusal count position byte"; ""),
-    EncodeSequence: "encode_sequence" Packing ("alphabet fold"; "text out") -> ("refusal count position byte"; ""),
+    EncoderFinalize: "encoder_finalize" Packing (ENCODER; "out") -> (PACKED; ""),
+    EncodeSequence: "encode_sequence" Packing ("alphabet fold"; "text out") -> (PACKED; ""),
     ByteRange: "byte_range_for_bases" Packing ("start end bits"; "") -> ("refusal start end"; ""),
-    EncoderList: "(list) encoder" Packing ("alphabet fold"; "text") -> ("refusal count position byte"; ""),
+    EncoderList: "(list) encoder" Packing ("alphabet fold"; "text") -> (PACKED; ""),
 
     DecodeAtOffset: "decode_substring_from_bytes_at_offset" Windows (WINDOW; "bytes out") -> ("refusal count"; ""),
     DecodeSubstring: "decode_substring_from_bytes" Windows (WINDOW; "bytes out") -> ("refusal count"; ""),
@@ -85,6 +86,13 @@ entries! {
     StreamList: "(list) stream" Streaming ("alphabet skip budget"; "source") -> ("refusal taken written status"; ""),
 }
 
+impl Shape {
+    /// How many words an answer has, those of the next state among them.
+    pub fn width(&self) -> usize {
+        self.answer.split_whitespace().chain(self.next.split_whitespace()).count()
+    }
+}
+
 /// One call of a list: an update or a read with the next `length` bytes, or, if `last`, the call that may end the list.
 #[derive(Clone, Copy, PartialEq, Debug)]
 pub struct Step {
@@ -93,12 +101,15 @@ pub struct Step {
     pub last: bool,
 }
 
+/// The numbers of a call: as many as an encoder's state has, which has the most.
+pub type Numbers = [u64; 9];
+
 #[derive(Clone, PartialEq)]
 pub struct Call {
     pub entry: Entry,
     /// The numbers of the shape, then zeros. All window reads have the four of `WINDOW`; one that fixes some of them
     /// has them at what it fixes.
-    pub numbers: [u64; 8],
+    pub numbers: Numbers,
     pub text: Vec<u8>,
     pub room: usize,
     pub steps: Vec<Step>,
@@ -106,7 +117,7 @@ pub struct Call {
 
 impl Call {
     pub fn new(entry: Entry, given: &[u64]) -> Call {
-        let mut numbers = [0; 8];
+        let mut numbers = Numbers::default();
         numbers[..given.len()].copy_from_slice(given);
         Call { entry, numbers, text: Vec::new(), room: 0, steps: Vec::new() }.settled()
     }
@@ -270,15 +281,19 @@ impl std::fmt::Display for Call {
 
 /// The words of an answer by name; a list's answer is a row of words for each call.
 pub fn show_words(entry: Entry, words: &[u64]) -> String {
+    show_rows(entry, words.chunks(entry.shape().width()))
+}
+
+/// The same of an answer that may tell fewer words of each row.
+pub fn show_rows<'a>(entry: Entry, rows: impl Iterator<Item = &'a [u64]>) -> String {
     let shape = entry.shape();
-    let names: Vec<&str> = shape.answer.split_whitespace().collect();
     let next = shape.next.split_whitespace().map(|name| format!("next.{name}"));
-    let all: Vec<String> = names.iter().map(|name| name.to_string()).chain(next).collect();
+    let names: Vec<String> = shape.answer.split_whitespace().map(str::to_string).chain(next).collect();
     let one = |row: &[u64]| {
-        let pairs = all.iter().zip(row).map(|(name, &word)| format!("{name} {}", show_number(word)));
+        let pairs = names.iter().zip(row).map(|(name, &word)| format!("{name} {}", show_number(word)));
         pairs.collect::<Vec<_>>().join(", ")
     };
-    words.chunks(all.len()).map(one).collect::<Vec<_>>().join(" / ")
+    rows.map(one).collect::<Vec<_>>().join(" / ")
 }
 
 /// The smallest call found that still fails, by trying smaller ones until none of them does.

@@ -1,8 +1,9 @@
 //! Puts one call to the port, to the model and to the Rust, and keeps the score.
 
-use crate::case::{show_words, shrink, Call, Entry, Memory};
+use crate::case::{show_rows, show_words, shrink, Call, Entry, Memory};
 use crate::faults::Fault;
-use crate::{model, port, reference};
+use crate::reference::{self, Opinion};
+use crate::{model, port};
 use std::panic::{catch_unwind, AssertUnwindSafe};
 
 /// Says that a planted fault has been noticed and no further case is needed.
@@ -23,6 +24,8 @@ pub struct Checker {
     counts: Vec<[u64; 8]>,
     /// How many cases folded.
     folding: Vec<u64>,
+    /// How many cases told of more than one non-member.
+    counting: Vec<u64>,
     /// How many cases the Rust had an answer to.
     with_rust: Vec<u64>,
     differing: Vec<u64>,
@@ -34,8 +37,18 @@ pub struct Checker {
     pub noticed: Option<String>,
 }
 
-/// Every answer to one call: who, words, memory. Document 01's model comes first, the port second, then the Rust.
-type Answers = Vec<(&'static str, Vec<u64>, Memory)>;
+/// Every answer to one call: the words and the memory of the model and of the port, and what the Rust has to say.
+struct Answers {
+    model: (Vec<u64>, Memory),
+    port: (Vec<u64>, Memory),
+    rust: Vec<Opinion>,
+}
+
+impl Answers {
+    fn agree(&self, call: &Call) -> bool {
+        self.port == self.model && self.rust.iter().all(|said| said.agrees(call, &self.model.0, &self.model.1))
+    }
+}
 
 impl Checker {
     pub fn new(seed: u64, fault: Option<Fault>) -> Checker {
@@ -46,6 +59,7 @@ impl Checker {
             made: 0,
             counts: vec![[0; 8]; entries],
             folding: vec![0; entries],
+            counting: vec![0; entries],
             with_rust: vec![0; entries],
             differing: vec![0; entries],
             trace: false,
@@ -70,10 +84,11 @@ impl Checker {
         }
         let seed = self.seed.wrapping_add(self.made);
         let answers = answers(call, seed, self.fault);
-        self.counts[call.entry as usize][column(call, &answers[0].1)] += 1;
+        self.counts[call.entry as usize][column(call, &answers.model.0)] += 1;
         self.folding[call.entry as usize] += u64::from(call.folds());
-        self.with_rust[call.entry as usize] += u64::from(answers.len() > 2);
-        if agree(&answers) {
+        self.counting[call.entry as usize] += u64::from(tells_several(call, &answers.model.0));
+        self.with_rust[call.entry as usize] += u64::from(!answers.rust.is_empty());
+        if answers.agree(call) {
             return Ok(());
         }
         self.differing[call.entry as usize] += 1;
@@ -103,19 +118,24 @@ impl Checker {
     }
 
     fn smallest(&self, call: &Call, seed: u64) -> Call {
-        shrink(call, &|smaller| !agree(&answers(smaller, seed, self.fault)))
+        shrink(call, &|smaller| !answers(smaller, seed, self.fault).agree(smaller))
     }
 
     fn show(&self, call: &Call, seed: u64) {
         println!("difference: {call}");
         let before = Memory::for_call(call, seed);
-        let answers = answers(call, seed, self.fault);
-        for (who, words, memory) in &answers {
-            let same = if equal(&answers[0], words, memory) { " " } else { "!" };
-            println!("  {same} {who}: {}", show_words(call.entry, words));
+        let Answers { model, port, rust } = answers(call, seed, self.fault);
+        let show = |who: &str, told: String, memory: &Memory, same: bool| {
+            println!("  {} {who}: {told}", if same { " " } else { "!" });
             if call.entry.shape().lent.contains("out") || !call.steps.is_empty() {
                 println!("      memory {}", memory.show(&before));
             }
+        };
+        show("document 01", show_words(call.entry, &model.0), &model.1, true);
+        show("port", show_words(call.entry, &port.0), &port.1, port == model);
+        for said in &rust {
+            let told = show_rows(call.entry, said.rows.iter().map(Vec::as_slice));
+            show(said.of, told, &said.memory, said.agrees(call, &model.0, &model.1));
         }
         if call.entry.shape().lent.contains("out") {
             println!("      memory {} before the call", before.show(&before));
@@ -126,7 +146,7 @@ impl Checker {
     pub fn print_table(&self) {
         print!("{:38}", "cases");
         COLUMNS.iter().for_each(|name| print!("{name:>9}"));
-        println!("{:>10}{:>9}{:>10}{:>8}", "all", "folding", "with Rust", "differ");
+        println!("{:>10}{:>9}{:>9}{:>10}{:>8}", "all", "folding", "counting", "with Rust", "differ");
         for &entry in Entry::ALL {
             let row = &self.counts[entry as usize];
             let all: u64 = row.iter().sum();
@@ -136,7 +156,7 @@ impl Checker {
             print!("{:38}", entry.shape().name);
             let show = |count: u64| if count > 0 { format!("{count:>9}") } else { format!("{:>9}", "") };
             row.iter().for_each(|&count| print!("{}", show(count)));
-            print!("{all:>10}{}", show(self.folding[entry as usize]));
+            print!("{all:>10}{}{}", show(self.folding[entry as usize]), show(self.counting[entry as usize]));
             println!("{:>10}{:>8}", self.with_rust[entry as usize], self.differing[entry as usize]);
         }
     }
@@ -151,27 +171,24 @@ fn column(call: &Call, expected: &[u64]) -> usize {
     alphabet.map_or(7, |number| number.min(6) as usize)
 }
 
+/// Whether an answer tells a count of more than one non-member. A state that is handed back tells none.
+fn tells_several(call: &Call, expected: &[u64]) -> bool {
+    let shape = call.entry.shape();
+    let told = shape.answer.ends_with("bad_count") || shape.next.ends_with("bad_count");
+    told && expected.chunks(shape.width()).any(|row| matches!(row, [0 | 5, .., count] if *count > 1))
+}
+
 fn answers(call: &Call, seed: u64, fault: Option<Fault>) -> Answers {
     let before = Memory::for_call(call, seed);
-    let mut found = Answers::new();
-    let mut memory = before.clone();
-    found.push(("document 01", model::answer(call, &mut memory), memory));
-    let mut memory = before.clone();
-    found.push(("port", port::answer(call, &mut memory, fault), memory));
+    let answered = |by: &dyn Fn(&mut Memory) -> Vec<u64>| {
+        let mut memory = before.clone();
+        (by(&mut memory), memory)
+    };
+    let model = answered(&|memory| model::answer(call, memory));
+    let port = answered(&|memory| port::answer(call, memory, fault));
     // The Rust is built with checks on; where it traps inside the domain, that is an answer too, and a wrong one.
-    match catch_unwind(AssertUnwindSafe(|| reference::opinions(call, &before, &found[0].1))) {
-        Ok(opinions) => found.extend(opinions.into_iter().map(|said| (said.of, said.words, said.memory))),
-        Err(_) => found.push(("Rust, which trapped", vec![u64::MAX], before)),
-    }
-    found
-}
-
-fn agree(answers: &Answers) -> bool {
-    let whole = answers[1].1.len() == answers[0].1.len();
-    whole && answers[1..].iter().all(|(_, words, memory)| equal(&answers[0], words, memory))
-}
-
-/// Whether an answer is the expected one as far as it goes, memory and all.
-fn equal(expected: &(&str, Vec<u64>, Memory), words: &[u64], memory: &Memory) -> bool {
-    expected.1.starts_with(words) && expected.2 == *memory
+    let trapped = || Opinion { of: "Rust, which trapped", rows: vec![vec![u64::MAX]], memory: before.clone() };
+    let asked = catch_unwind(AssertUnwindSafe(|| reference::opinions(call, &before, &model.0)));
+    let rust = asked.unwrap_or_else(|_| vec![trapped()]);
+    Answers { model, port, rust }
 }

@@ -1,7 +1,7 @@
 //! Planted faults: each turns the port's calls or answers into those of a port that is wrong in one way, to show that
 //! the comparison would notice. A fault changes what goes in (`call`) or what comes out (`answer`).
 
-use crate::case::{Call, Entry, Layer};
+use crate::case::{Call, Entry, Layer, Numbers};
 use crate::model::{self, Intake, DONE, FULL, HUNGRY, LIMIT};
 
 macro_rules! faults {
@@ -68,6 +68,25 @@ faults! {
     PackingNarrows Packing "encode_sequence narrows the choice to a byte",
     EncoderTakesTwo Packing "an encoder's choice of 2 is taken as sound",
     ChoiceBeforeAlphabet Packing "a choice above 1 is refused before the alphabet",
+    CountAnew Packing "the count of non-members starts anew with each piece",
+    CountStays Packing "the count stays at one, the first non-member",
+    CountEndsWithFirst Packing "pieces behind the one with the first non-member are not counted",
+    CountsRefused Packing "a refused piece is counted",
+    CountsFolded Packing "letters that fold to members are counted",
+    SequenceCountsFirst Packing "encode_sequence stops counting at the first non-member",
+    FirstChunkCounted Packing "only the chunk of 4,096 bytes with the first non-member is counted",
+    RestUncounted Packing "bytes behind the last whole 8 are not counted",
+    CountInByte Packing "a piece's count is kept in a byte",
+    CountInShort Packing "a piece's count is kept in 16 bits",
+    CountNarrowed Packing "a state's count is narrowed to 32 bits",
+    CountWithoutFirst Packing "a count with no first non-member is taken as sound",
+    FirstWithoutCount Packing "a first non-member with a count of zero is taken as sound",
+    CountUnbounded Packing "a count above the symbols from the first non-member on is taken as sound",
+    CountPastByOne Packing "a count one above the symbols from the first non-member on is taken as sound",
+    CountOfAllRefused Packing "a count of all symbols from the first non-member on is refused",
+    CountBeforeAlphabet Packing "an unsound count is refused before the alphabet",
+    CountUntold Packing "finalize tells no count",
+    CountForPosition Packing "finalize tells the count in the position's place, and the position in its",
 
     AlphabeticalSymbols Windows "Dna2bit decodes by codes in alphabetical order",
     LowBitsFirst Windows "Dna2bit decodes a byte from its low bits on",
@@ -128,9 +147,36 @@ impl Fault {
             (Fault::WindowPastLimit, _) if numbers[3] == LIMIT + 1 && numbers[2] < LIMIT => numbers[3] = LIMIT,
             (Fault::CoverShort, Entry::DecodeCovered) => text.push(0),
             (Fault::BudgetNarrowed, Entry::StreamNew) => numbers[2] &= 0xFFFF_FFFF,
+            (_, Entry::EncoderUpdate | Entry::EncoderFinalize) if self.lenient() => numbers[8] = self.believed(numbers),
             _ => self.folding(&mut wrong),
         }
         wrong
+    }
+
+    /// Whether a port with this fault takes a state's count for a sound one.
+    fn lenient(self) -> bool {
+        matches!(
+            self,
+            Fault::CountNarrowed
+                | Fault::CountWithoutFirst
+                | Fault::FirstWithoutCount
+                | Fault::CountUnbounded
+                | Fault::CountPastByOne
+        )
+    }
+
+    /// The count for which such a port takes that of a state.
+    fn believed(self, state: &Numbers) -> u64 {
+        let [_, seen, _, _, has_bad, position, .., count] = *state;
+        let most = seen.saturating_sub(position);
+        match (self, has_bad) {
+            (Fault::CountNarrowed, _) => count & 0xFFFF_FFFF,
+            (Fault::CountWithoutFirst, 0) => 0,
+            (Fault::FirstWithoutCount, 1) => count.max(1),
+            (Fault::CountUnbounded, 1) => count.min(most),
+            (Fault::CountPastByOne, 1) if count == most + 1 => most,
+            _ => count,
+        }
     }
 
     /// What a port whose folding has this fault makes of its input.
@@ -207,11 +253,15 @@ impl Fault {
     }
 
     fn packing(self, call: &Call, before: &[u8], words: &mut [u64], out: &mut [u8]) {
-        let [_, seen, pending_bits, _, has_bad, ..] = call.numbers;
+        let [_, seen, pending_bits, _, has_bad, position, _, _, count] = call.numbers;
         let stranger = model::first_stranger(intake(call), &call.text);
+        let strangers = model::strangers(intake(call), &call.text);
         match (self, call.entry, stranger) {
-            (Fault::StrangerAsZeros, Entry::EncoderUpdate, Some((place, byte))) if has_bad == 0 && words[0] == 0 => {
-                words[6..9].copy_from_slice(&[1, seen + place, u64::from(byte)]);
+            (Fault::StrangerAsZeros, Entry::EncoderUpdate, Some((place, byte))) if words[0] == 0 => {
+                words[10] += strangers;
+                if has_bad == 0 {
+                    words[6..9].copy_from_slice(&[1, seen + place, u64::from(byte)]);
+                }
             }
             (Fault::PiecePosition, Entry::EncoderUpdate, Some((place, _))) if has_bad == 0 && words[0] == 0 => {
                 words[7] = place
@@ -224,7 +274,7 @@ impl Fault {
             }
             (Fault::SpareOnes, Entry::EncoderFinalize, _) if words[1] == 1 => out[0] |= 0xFF >> pending_bits,
             (Fault::MemberBeforeMemory, Entry::EncodeSequence, Some((place, byte))) if words[0] == 4 => {
-                words.copy_from_slice(&[5, 0, place, u64::from(byte)]);
+                words.copy_from_slice(&[5, 0, place, u64::from(byte), strangers]);
             }
             (Fault::MemoryBeforeMember, Entry::EncoderFinalize, _)
                 if words[0] == 5 && pending_bits > 0 && out.is_empty() =>
@@ -236,14 +286,70 @@ impl Fault {
             }
             (Fault::RefusalWrites, Entry::EncodeSequence, _) if words[0] == 5 && !out.is_empty() => out[0] ^= 0x55,
             (Fault::RefusalZeroes, Entry::EncoderUpdate, _) if words[0] != 0 => words[1..].fill(0),
+            (Fault::CountOfAllRefused, Entry::EncoderUpdate | Entry::EncoderFinalize, _)
+                if words[0] != 8 && has_bad == 1 && seen.checked_sub(position) == Some(count) =>
+            {
+                refuse(1, call, before, words, out)
+            }
             (_, Entry::ByteRange, _) => self.byte_range(call, words),
-            _ => self.choosing(call, words),
+            _ => {
+                self.choosing(call, words);
+                self.counting(call, words);
+            }
+        }
+    }
+
+    /// What a port whose count of non-members has this fault makes of an answer of packing.
+    fn counting(self, call: &Call, words: &mut [u64]) {
+        let [_, _, _, _, has_bad, .., count] = call.numbers;
+        match (self, call.entry, words[0]) {
+            (Fault::CountAnew, Entry::EncoderUpdate, 0) => words[10] -= count,
+            (Fault::CountStays, Entry::EncoderUpdate, 0) => words[10] = words[6],
+            (Fault::CountEndsWithFirst, Entry::EncoderUpdate, 0) if has_bad == 1 => words[10] = count,
+            (Fault::CountsRefused, Entry::EncoderUpdate, 4) => words[10] += self.counted(call),
+            (Fault::SequenceCountsFirst, Entry::EncodeSequence, 5) => words[4] = 1,
+            (Fault::CountUntold, Entry::EncoderFinalize, 5) => words[4] = 0,
+            (Fault::CountForPosition, Entry::EncoderFinalize, 5) => words.swap(2, 4),
+            (Fault::CountBeforeAlphabet, Entry::EncoderUpdate, 8) if has_bad == 0 && count > 0 => words[0] = 1,
+            (_, Entry::EncoderUpdate, 0) if self.miscounts() => words[10] = count + self.counted(call),
+            (_, Entry::EncodeSequence, 5) if self.miscounts() => words[4] = self.counted(call),
+            // A refused state goes back as it came.
+            (_, Entry::EncoderUpdate, 1..) if self.lenient() => words[10] = count,
+            _ => {}
+        }
+    }
+
+    /// Whether a port with this fault takes a text's non-members for more or fewer than they are.
+    fn miscounts(self) -> bool {
+        matches!(
+            self,
+            Fault::CountsFolded
+                | Fault::FirstChunkCounted
+                | Fault::RestUncounted
+                | Fault::CountInByte
+                | Fault::CountInShort
+        )
+    }
+
+    /// How many non-members such a port counts in a call's text; any other counts all.
+    fn counted(self, call: &Call) -> u64 {
+        let (intake, text) = (intake(call), &call.text[..]);
+        match self {
+            Fault::CountsFolded => model::strangers(Intake { fold: false, ..intake }, text),
+            Fault::FirstChunkCounted => {
+                let mut chunks = text.chunks(4096).map(|chunk| model::strangers(intake, chunk));
+                chunks.find(|&count| count > 0).unwrap_or(0)
+            }
+            Fault::RestUncounted => model::strangers(intake, &text[..text.len() / 8 * 8]),
+            Fault::CountInByte => model::strangers(intake, text) & 0xFF,
+            Fault::CountInShort => model::strangers(intake, text) & 0xFFFF,
+            _ => model::strangers(intake, text),
         }
     }
 
     /// What a port whose folding has this fault makes of an answer of packing.
     fn choosing(self, call: &Call, words: &mut [u64]) {
-        let [alphabet, second, .., fold] = call.numbers;
+        let [alphabet, second, .., fold, _] = call.numbers;
         let mut none = 0;
         let reported = match call.entry {
             Entry::EncodeSequence if words[0] == 5 && call.folds() => &mut words[3],

@@ -1,8 +1,9 @@
-//! Document 01's questions and answers, with the choice to fold that document 02 adds (A1), written from their sentences
-//! and not from the Rust: slow, small, and whole. It gives every word of every answer, on a refusal too, and the memory
-//! afterwards. It is held against the Rust wherever the Rust has an answer, and decides where the Rust has none.
+//! Document 01's questions and answers, with the choice to fold (A1) and the count of non-members (A5) that document 02
+//! adds, written from their sentences and not from the Rust: slow, small, and whole. It gives every word of every answer,
+//! on a refusal too, and the memory afterwards. It is held against the Rust wherever the Rust has an answer, and decides
+//! where the Rust has none.
 
-use crate::case::{Call, Entry, Memory};
+use crate::case::{Call, Entry, Memory, Numbers};
 use crate::tally;
 
 pub const LIMIT: u64 = 1 << 60;
@@ -101,11 +102,17 @@ pub fn first_stranger(intake: Intake, text: &[u8]) -> Option<(u64, u8)> {
     Some((place as u64, text[place]))
 }
 
-/// A refusal: its number, and the values that document 01 gives with 5 and 7.
+/// How many bytes of a text are non-members.
+pub fn strangers(intake: Intake, text: &[u8]) -> u64 {
+    text.iter().filter(|&&byte| intake.code(byte).is_none()).count() as u64
+}
+
+/// A refusal: its number, and the values that go with 5 and 7.
 #[derive(Debug)]
 pub enum No {
     Plain(u64),
-    Member(u64, u8),
+    /// Position and byte of the first non-member, and how many there are.
+    Member(u64, u8, u64),
     Outstanding(u64),
 }
 
@@ -126,7 +133,7 @@ fn refused(call: &Call, no: &No) -> Vec<u64> {
     let mut words = vec![0; shape.answer.split_whitespace().count()];
     match *no {
         No::Plain(number) => words[0] = number,
-        No::Member(position, byte) => words.copy_from_slice(&[5, 0, position, u64::from(byte)]),
+        No::Member(position, byte, count) => words.copy_from_slice(&[5, 0, position, u64::from(byte), count]),
         No::Outstanding(bases) => words.copy_from_slice(&[7, bases]),
     }
     match call.entry {
@@ -148,7 +155,7 @@ pub fn ask(yes: bool, number: u64) -> Result<(), No> {
 fn accepted(call: &Call, memory: &mut Memory) -> Answer {
     let n = call.numbers;
     match call.entry {
-        Entry::AbiVersion => Ok(vec![2]),
+        Entry::AbiVersion => Ok(vec![3]),
         Entry::BitsPerSymbol => ask(n[0] <= 5, 8).map(|()| vec![0, width(n[0])]),
         Entry::Contains => {
             ask(n[0] <= 5, 8)?;
@@ -217,13 +224,13 @@ fn guesser_sound(mask: u64, fold: u64) -> Result<(), No> {
 
 /// The state of an encoder that has seen nothing.
 fn fresh_encoder(alphabet: u64, fold: u64) -> Vec<u64> {
-    vec![alphabet, 0, 0, 0, 0, 0, 0, fold]
+    vec![alphabet, 0, 0, 0, 0, 0, 0, fold, 0]
 }
 
 /// Question 4 for an encoder, under the choice that its state keeps: 0 or 1. With no first non-member its position and
-/// byte mean nothing.
-fn encoder_sound(state: &[u64; 8]) -> Result<(), No> {
-    let [alphabet, seen, pending_bits, pending, has_bad, bad_position, bad_byte, fold] = *state;
+/// byte mean nothing. The count is zero exactly then, and else at most the symbols seen from that position on.
+fn encoder_sound(state: &Numbers) -> Result<(), No> {
+    let [alphabet, seen, pending_bits, pending, has_bad, bad_position, bad_byte, fold, bad_count] = *state;
     ask(alphabet <= 5, 8)?;
     ask(fold <= 1, 1)?;
     ask(seen <= LIMIT, 1)?;
@@ -232,12 +239,14 @@ fn encoder_sound(state: &[u64; 8]) -> Result<(), No> {
     ask(has_bad <= 1, 1)?;
     let intake = Intake { alphabet, fold: fold == 1 };
     let truly = bad_byte <= 255 && !contains(intake, bad_byte) && bad_position < seen;
-    ask(has_bad == 0 || truly, 1)
+    ask(has_bad == 0 || truly, 1)?;
+    ask((bad_count == 0) == (has_bad == 0), 1)?;
+    ask(has_bad == 0 || bad_count <= seen - bad_position, 1)
 }
 
-fn update(state: &[u64; 8], piece: &[u8], out: &mut [u8]) -> Answer {
+fn update(state: &Numbers, piece: &[u8], out: &mut [u8]) -> Answer {
     encoder_sound(state)?;
-    let [alphabet, seen, pending_bits, pending, has_bad, bad_position, bad_byte, fold] = *state;
+    let [alphabet, seen, pending_bits, pending, has_bad, bad_position, bad_byte, fold, bad_count] = *state;
     let intake = Intake { alphabet, fold: fold == 1 };
     ask(piece.len() as u64 <= LIMIT - seen, 2)?;
     let mut row: Vec<u64> = bits(pending, pending_bits).collect();
@@ -251,19 +260,20 @@ fn update(state: &[u64; 8], piece: &[u8], out: &mut [u8]) -> Answer {
         Some((place, byte)) => [1, seen + place, u64::from(byte)],
         None => [0, 0, 0],
     };
-    let next = [alphabet, seen + piece.len() as u64, left.len() as u64, number(left), bad[0], bad[1], bad[2], fold];
-    Ok([0, count].into_iter().chain(next).collect())
+    let packed = [alphabet, seen + piece.len() as u64, left.len() as u64, number(left)];
+    let known = [bad[0], bad[1], bad[2], fold, bad_count + strangers(intake, piece)];
+    Ok([&[0, count][..], &packed, &known].concat())
 }
 
-fn finalize(state: &[u64; 8], out: &mut [u8]) -> Answer {
+fn finalize(state: &Numbers, out: &mut [u8]) -> Answer {
     encoder_sound(state)?;
-    let [_, _, pending_bits, pending, has_bad, bad_position, bad_byte, _] = *state;
+    let [_, _, pending_bits, pending, has_bad, bad_position, bad_byte, _, bad_count] = *state;
     if has_bad == 1 {
-        return Err(No::Member(bad_position, bad_byte as u8));
+        return Err(No::Member(bad_position, bad_byte as u8, bad_count));
     }
     let last = [(pending << (8 - pending_bits)) as u8];
     let count = write(out, if pending_bits > 0 { &last } else { &[] })?;
-    Ok(vec![0, count, 0, 0])
+    Ok(vec![0, count, 0, 0, 0])
 }
 
 fn encode_sequence(alphabet: u64, fold: bool, text: &[u8], out: &mut [u8]) -> Answer {
@@ -273,8 +283,8 @@ fn encode_sequence(alphabet: u64, fold: bool, text: &[u8], out: &mut [u8]) -> An
     let bytes = packed(intake, text);
     ask(bytes.len() <= out.len(), 4)?;
     match first_stranger(intake, text) {
-        Some((place, byte)) => Err(No::Member(place, byte)),
-        None => Ok(vec![0, write(out, &bytes)?, 0, 0]),
+        Some((place, byte)) => Err(No::Member(place, byte, strangers(intake, text))),
+        None => Ok(vec![0, write(out, &bytes)?, 0, 0, 0]),
     }
 }
 
@@ -307,7 +317,7 @@ fn window(call: &Call, out: &mut [u8]) -> Answer {
 }
 
 /// Question 4 for a stream.
-fn stream_sound(state: &[u64; 8]) -> Result<(), No> {
+fn stream_sound(state: &Numbers) -> Result<(), No> {
     let [alphabet, skip, _, pending_bits, pending, ..] = *state;
     ask(alphabet <= 5, 8)?;
     ask(skip < 8 && pending_bits <= 7 && pending < 1 << pending_bits, 1)?;
@@ -316,7 +326,7 @@ fn stream_sound(state: &[u64; 8]) -> Result<(), No> {
 
 /// A state with p bits pending is that of a stream of skip 8 - p that has taken one byte, so one count serves both: with
 /// a skip q, k bases take ceil((q + k·b) / 8) bytes.
-fn stream_read(state: &[u64; 8], source: &[u8], out: &mut [u8]) -> Answer {
+fn stream_read(state: &Numbers, source: &[u8], out: &mut [u8]) -> Answer {
     stream_sound(state)?;
     let [alphabet, skip, budget, pending_bits, pending, ..] = *state;
     if skip > 0 && source.is_empty() {
@@ -346,7 +356,7 @@ pub fn stream_status(budget: u64, room: u64) -> u64 {
     }
 }
 
-fn stream_end(state: &[u64; 8]) -> Answer {
+fn stream_end(state: &Numbers) -> Answer {
     stream_sound(state)?;
     let [_, skip, budget, ..] = *state;
     if skip > 0 || budget > 0 {

@@ -1,6 +1,6 @@
 //! Cases of packing: the encoder from reachable, sound and forged states, `encode_sequence`, byte ranges and lists.
 
-use crate::case::{Call, Entry, Step};
+use crate::case::{Call, Entry, Numbers, Step};
 use crate::check::{Checker, Go};
 use crate::model::{self, Intake, LIMIT};
 use crate::random::{beyond, Random};
@@ -12,6 +12,10 @@ pub fn cases(check: &mut Checker, random: &mut Random, scale: u64) -> Go {
         strangers_at_every_place(check, random, intake)?;
         every_byte(check, random, intake)?;
         every_cut(check, random, intake)?;
+        forged_counts(check, random, intake)?;
+        if intake.alphabet < 4 {
+            counts(check, random, intake, scale)?;
+        }
         for _ in 0..20 * scale {
             bulk(check, random, intake)?;
         }
@@ -113,8 +117,8 @@ fn every_byte(check: &mut Checker, random: &mut Random, intake: Intake) -> Go {
             sequence(check, random, intake, &text, need(intake, len))?;
             let mut state = sound_state(random, intake);
             check.call(&Call::new(Entry::EncoderUpdate, &state).text(&text).room(completed(&state, len)))?;
-            let seen = state[1];
-            bad(&mut state, random.below(seen.max(1)), u64::from(byte));
+            let position = random.below(state[1].max(1));
+            bad(random, &mut state, position, u64::from(byte));
             check.call(&Call::new(Entry::EncoderUpdate, &state).text(&text).room(completed(&state, len)))?;
             check.call(&Call::new(Entry::EncoderFinalize, &state).room(1))?;
         }
@@ -147,19 +151,28 @@ fn long_runs(check: &mut Checker, random: &mut Random, intake: Intake) -> Go {
 fn random_sequence(check: &mut Checker, random: &mut Random, intake: Intake) -> Go {
     let len = random.pick(&[8, 20, 70, 300]);
     let len = random.below(len) as usize;
-    let rarity = random.pick(&[10, 100, 100_000]);
+    let rarity = random.pick(&[1, 10, 100, 100_000]);
     let text = random.mixed(intake, len, rarity);
     let room = room_near(random, need(intake, len));
     sequence(check, random, intake, &text, room)
 }
 
-/// Gives a state a first non-member.
-fn bad(state: &mut [u64; 8], position: u64, byte: u64) {
+/// Gives a state a first non-member, and a count that goes with it: one, all symbols from there on, or between.
+fn bad(random: &mut Random, state: &mut Numbers, position: u64, byte: u64) {
+    let most = state[1].saturating_sub(position).max(1);
+    let (some, near) = (1 + random.below(most), most - random.below(most.min(3)));
     state[4..7].copy_from_slice(&[1, position, byte]);
+    state[8] = random.pick(&[1, some, near, most]);
+}
+
+/// A state with a first non-member that is one, at a position that may be none.
+fn stray(random: &mut Random, intake: Intake, state: &mut Numbers, position: u64) {
+    let byte = random.stranger(intake);
+    bad(random, state, position, u64::from(byte));
 }
 
 /// A state that answers every part of question 4 with yes, whether or not a text leads there.
-fn sound_state(random: &mut Random, intake: Intake) -> [u64; 8] {
+fn sound_state(random: &mut Random, intake: Intake) -> Numbers {
     let seen = match random.below(5) {
         0 => random.below(9),
         1 => LIMIT - random.below(30),
@@ -168,11 +181,11 @@ fn sound_state(random: &mut Random, intake: Intake) -> [u64; 8] {
     };
     let pending_bits = seen * intake.width() % 8;
     let pending = random.below(1 << pending_bits);
-    let mut state = [intake.alphabet, seen, pending_bits, pending, 0, 0, 0, u64::from(intake.fold)];
+    let mut state = [intake.alphabet, seen, pending_bits, pending, 0, 0, 0, u64::from(intake.fold), 0];
     if intake.alphabet < 4 && seen > 0 && random.one_in(3) {
         let position = random.below(seen);
         let position = random.pick(&[0, seen - 1, position]);
-        bad(&mut state, position, u64::from(random.stranger(intake)));
+        stray(random, intake, &mut state, position);
     } else if random.one_in(4) {
         // With no first non-member these two mean nothing, whatever they hold.
         state[5..7].copy_from_slice(&[random.number(), random.number()]);
@@ -181,10 +194,10 @@ fn sound_state(random: &mut Random, intake: Intake) -> [u64; 8] {
 }
 
 /// A sound state with something changed that may leave it unsound.
-fn forged_state(random: &mut Random, intake: Intake) -> [u64; 8] {
+fn forged_state(random: &mut Random, intake: Intake) -> Numbers {
     let mut state = sound_state(random, intake);
     let seen = state[1];
-    match random.below(12) {
+    match random.below(14) {
         0 => state[1] = LIMIT + 1 + random.below(16),
         // Seen so large that seen·b passes 64 bits, with the remainder that it leaves there.
         1 => {
@@ -197,21 +210,37 @@ fn forged_state(random: &mut Random, intake: Intake) -> [u64; 8] {
         4 => state[3] = (1 << state[2]) + random.below(3),
         5 => state[3] = random.number(),
         6 => state[4] = random.number(),
-        7 => bad(&mut state, seen.wrapping_sub(1) % LIMIT, random.next() & 0xFF),
-        8 => bad(&mut state, seen + random.below(3), u64::from(random.stranger(intake))),
-        9 => bad(&mut state, seen / 2, 256 * (1 + random.below(5)) + u64::from(random.stranger(intake))),
+        7 => {
+            let byte = random.next() & 0xFF;
+            bad(random, &mut state, seen.wrapping_sub(1) % LIMIT, byte);
+        }
+        8 => {
+            let position = seen + random.below(3);
+            stray(random, intake, &mut state, position);
+        }
+        9 => {
+            stray(random, intake, &mut state, seen / 2);
+            state[6] += 256 * (1 + random.below(5));
+        }
         10 => state[7] = random.number(),
         // A letter that is a member with folding and may be none without, with either choice.
-        _ => {
-            bad(&mut state, seen / 2, u64::from(random.members(intake, 1)[0].to_ascii_lowercase()));
+        11 => {
+            let byte = random.members(intake, 1)[0].to_ascii_lowercase();
+            bad(random, &mut state, seen / 2, u64::from(byte));
             state[7] = random.below(2);
+        }
+        12 => state[8] = random.number(),
+        // A count of none, or of more than there may be.
+        _ => {
+            stray(random, intake, &mut state, seen / 2);
+            state[8] = random.pick(&[0, seen - seen / 2 + 1, seen + 1, u64::MAX]);
         }
     }
     state
 }
 
 /// How many bytes an update from a sound state writes for a piece.
-fn completed(state: &[u64; 8], len: usize) -> usize {
+fn completed(state: &Numbers, len: usize) -> usize {
     ((state[2] + len as u64 * model::width(state[0])) / 8) as usize
 }
 
@@ -220,7 +249,7 @@ fn random_update(check: &mut Checker, random: &mut Random, intake: Intake) -> Go
     let state = if forged { forged_state(random, intake) } else { sound_state(random, intake) };
     let len = random.pick(&[2, 9, 40, 120]);
     let len = random.below(len) as usize;
-    let rarity = random.pick(&[5, 50, 100_000]);
+    let rarity = random.pick(&[1, 5, 50, 100_000]);
     let piece = random.mixed(intake, len, rarity);
     let enough = if forged { len + 8 } else { completed(&state, len) };
     let room = room_near(random, enough);
@@ -246,6 +275,107 @@ fn random_finalize(check: &mut Checker, random: &mut Random, intake: Intake) -> 
     let state = if random.one_in(3) { forged_state(random, intake) } else { sound_state(random, intake) };
     let room = random.pick(&[0, 0, 1, 1, 2, 7]);
     check.call(&Call::new(Entry::EncoderFinalize, &state).room(room))
+}
+
+/// Every count near those that question 4 tells apart, with every kind of `has_bad` and of position.
+fn forged_counts(check: &mut Checker, random: &mut Random, intake: Intake) -> Go {
+    for seen in [0, 1, 2, 9, 64, LIMIT - 8, LIMIT] {
+        for position in [0, 1, seen.saturating_sub(1), seen, seen + 1, u64::MAX] {
+            let most = seen.saturating_sub(position);
+            for count in [0, 1, 2, most.saturating_sub(1), most, most + 1, seen + 1, 1 << 32, LIMIT, u64::MAX] {
+                for has_bad in [0, 1, 2, 256, u64::MAX] {
+                    let mut state = sound_state(random, intake);
+                    state[1..4].copy_from_slice(&[seen, seen * intake.width() % 8, 0]);
+                    stray(random, intake, &mut state, position);
+                    (state[4], state[8]) = (has_bad, count);
+                    through_both(check, random, intake, &state)?;
+                }
+            }
+        }
+    }
+    Ok(())
+}
+
+/// The state through `update`, with a piece that may hold non-members, and through `finalize`.
+fn through_both(check: &mut Checker, random: &mut Random, intake: Intake, state: &Numbers) -> Go {
+    let len = random.below(9) as usize;
+    let piece = random.mixed(intake, len, 3);
+    check.call(&Call::new(Entry::EncoderUpdate, state).text(&piece).room(completed(state, len)))?;
+    check.call(&Call::new(Entry::EncoderFinalize, state).room(1))
+}
+
+/// Texts with many non-members, in the alphabets that have any.
+fn counts(check: &mut Checker, random: &mut Random, intake: Intake, scale: u64) -> Go {
+    counted_texts(check, random, intake)?;
+    counted_borders(check, random, intake)?;
+    for _ in 0..500 * scale {
+        counted_list(check, random, intake)?;
+    }
+    // More non-members than 16 bits count.
+    let len = (1 << 16) + random.below(99) as usize;
+    let text = random.mixed(intake, len, 1);
+    counted(check, random, intake, &text, len)
+}
+
+/// A text whole, as one piece from any state, and cut in two from a fresh one.
+fn counted(check: &mut Checker, random: &mut Random, intake: Intake, text: &[u8], cut: usize) -> Go {
+    let len = text.len();
+    sequence(check, random, intake, text, need(intake, len))?;
+    let state = sound_state(random, intake);
+    check.call(&Call::new(Entry::EncoderUpdate, &state).text(text).room(completed(&state, len)))?;
+    list(check, random, intake, text, exact(intake, &[cut, len - cut]))
+}
+
+/// Nothing but non-members, every other byte, few, hardly any and none, at lengths around those at which a count by words
+/// of 8 bytes, by blocks of 64 or by chunks of 4,096 turns. The text may be made for the other choice, so that letters in
+/// lowercase are members with folding and non-members without.
+fn counted_texts(check: &mut Checker, random: &mut Random, intake: Intake) -> Go {
+    let around = |turn: usize| turn - 1..=turn + 1;
+    for len in [8, 16, 64, 72, 128, 256, 4096, 4104, 4160, 8192, 8256, 12_288].into_iter().flat_map(around) {
+        for rarity in [1, 2, 9, 90, 2000, u64::MAX] {
+            let made_for = Intake { fold: random.one_in(2), ..intake };
+            let text = random.mixed(made_for, len, rarity);
+            let cut = random.below(len as u64 + 1) as usize;
+            counted(check, random, intake, &text, cut)?;
+        }
+    }
+    Ok(())
+}
+
+/// Members, but for non-members just before, at and behind the places where such a count turns, in every combination; the
+/// text ends near another such place, and is cut at one of these.
+fn counted_borders(check: &mut Checker, random: &mut Random, intake: Intake) -> Go {
+    for border in [8, 16, 64, 128, 4096, 4104, 4160, 8192] {
+        for chosen in 0..8 {
+            let len = border + random.pick(&[2, 7, 8, 9, 63, 64, 65]);
+            let mut text = random.members(intake, len);
+            for k in (0..3).filter(|k| chosen >> k & 1 == 1) {
+                text[border - 1 + k] = random.stranger(intake);
+            }
+            let cut = border - 1 + random.below(4) as usize;
+            counted(check, random, intake, &text, cut)?;
+        }
+    }
+    Ok(())
+}
+
+/// A list of pieces that are clean, full of non-members or between; some have no room, and are refused if they complete a
+/// byte. A `finalize` here and there tells the count so far.
+fn counted_list(check: &mut Checker, random: &mut Random, intake: Intake) -> Go {
+    let longest = if random.one_in(200) { 5000 } else { random.pick(&[9, 40, 150]) };
+    let (mut text, mut steps) = (Vec::new(), Vec::new());
+    for _ in 0..1 + random.below(6) {
+        let length = random.below(longest) as usize;
+        let rarity = random.pick(&[1, 2, 20, u64::MAX]);
+        text.extend(random.mixed(intake, length, rarity));
+        let room = if random.one_in(4) { 0 } else { length + 1 };
+        steps.push(Step { length, room, last: false });
+        if random.one_in(3) {
+            steps.push(last(0));
+        }
+    }
+    steps.push(last(1));
+    list(check, random, intake, &text, steps)
 }
 
 /// Numbers that name no alphabet, in a parameter and in states sound and unsound.
@@ -280,7 +410,7 @@ fn exact(intake: Intake, lengths: &[usize]) -> Vec<Step> {
     steps
 }
 
-/// Every way to cut texts of up to eight bytes into pieces, with members only and with one non-member.
+/// Every way to cut texts of up to eight bytes into pieces, with members only, with one non-member and with any number.
 fn every_cut(check: &mut Checker, random: &mut Random, intake: Intake) -> Go {
     for len in 1..=8usize {
         for cuts in 0..1usize << (len - 1) {
@@ -294,6 +424,8 @@ fn every_cut(check: &mut Checker, random: &mut Random, intake: Intake) -> Go {
             let mut text = random.members(intake, len);
             list(check, random, intake, &text, exact(intake, &lengths))?;
             text[random.below(len as u64) as usize] = random.stranger(intake);
+            list(check, random, intake, &text, exact(intake, &lengths))?;
+            let text = random.mixed(intake, len, 2);
             list(check, random, intake, &text, exact(intake, &lengths))?;
         }
     }
@@ -314,7 +446,7 @@ fn random_list(check: &mut Checker, random: &mut Random, intake: Intake) -> Go {
     if random.one_in(4) {
         steps.insert(random.below(calls as u64 + 1) as usize, last(random.below(2) as usize));
     }
-    let rarity = random.pick(&[20, 100_000]);
+    let rarity = random.pick(&[2, 20, 100_000]);
     let text = random.mixed(intake, lengths.iter().sum(), rarity);
     list(check, random, intake, &text, steps)
 }

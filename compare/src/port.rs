@@ -77,8 +77,8 @@ mod packing {
     }
 
     fn plain(call: &Call, out: &mut [u8]) -> Vec<u64> {
-        let [alphabet, seen, pending_bits, pending, has_bad, bad_position, bad_byte, fold] = call.numbers;
-        let state = Encoder { alphabet, seen, pending_bits, pending, has_bad, bad_position, bad_byte, fold };
+        let [alphabet, seen, pending_bits, pending, has_bad, bad_position, bad_byte, fold, bad_count] = call.numbers;
+        let state = Encoder { alphabet, seen, pending_bits, pending, has_bad, bad_position, bad_byte, fold, bad_count };
         let (text, len) = (call.text.as_ptr(), call.text.len());
         let (out, room) = (out.as_mut_ptr(), out.len());
         // SAFETY: each pointer is lent with its length and the two memories are apart.
@@ -108,15 +108,16 @@ mod packing {
         for (at, step) in call.steps.iter().enumerate() {
             if step.last {
                 let last = Call::new(Entry::EncoderFinalize, &state);
-                words.extend(faulty(&last, memory.lent(at), fault, plain));
-                if words[words.len() - 4] == 0 {
+                let answer = faulty(&last, memory.lent(at), fault, plain);
+                words.extend(&answer);
+                if answer[0] == 0 {
                     break;
                 }
                 continue;
             }
             let update = Call::new(Entry::EncoderUpdate, &state).text(pieces.next().unwrap_or(&[]));
             let answer = faulty(&update, memory.lent(at), fault, plain);
-            words.extend([answer[0], answer[1], 0, 0]);
+            words.extend([answer[0], answer[1], 0, 0, 0]);
             state = answer[2..].to_vec();
         }
         words

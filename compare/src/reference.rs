@@ -1,6 +1,7 @@
 //! The Rust's answers, put in the port's form as document 01 maps them: `Vec` to lent memory and a count, `Read` to
 //! source bytes, `&mut self` to a state. Only calls in demand 2's domain get one. The Rust does not fold: a call that
-//! folds is put to it with the uppercased text, and the byte that it then reports is exchanged for the one received.
+//! folds is put to it with the uppercased text, and the byte that it then reports is exchanged for the one received. Nor
+//! does it count non-members: of a state and of a refusal 5 it tells all but the count.
 
 use crate::case::{Call, Entry, Layer, Memory};
 use crate::model;
@@ -20,11 +21,28 @@ const KINDS: [AlphabetType; 6] = [
     AlphabetType::Unknown,
 ];
 
-/// What one function of the Rust answers. Words at the end that the Rust does not tell are left out.
+/// What one function of the Rust answers: a row of words, or one for each call of a list. Words at the end of a row that
+/// the Rust does not tell are left out.
 pub struct Opinion {
     pub of: &'static str,
-    pub words: Vec<u64>,
+    pub rows: Vec<Vec<u64>>,
     pub memory: Memory,
+}
+
+impl Opinion {
+    /// Whether an answer to the call is this one as far as this goes, memory and all.
+    pub fn agrees(&self, call: &Call, words: &[u64], memory: &Memory) -> bool {
+        let rows = words.chunks(call.entry.shape().width());
+        let told = rows.len() == self.rows.len() && rows.zip(&self.rows).all(|(row, told)| row.starts_with(told));
+        told && *memory == self.memory
+    }
+}
+
+/// The words that the Rust tells of each call of a list: all of a stream's answer, and of an encoder's all but the count.
+const TOLD: usize = 4;
+
+fn is_list(call: &Call) -> bool {
+    matches!(call.entry, Entry::EncoderList | Entry::StreamList)
 }
 
 /// Collects opinions about one call, each with memory of its own.
@@ -44,7 +62,9 @@ impl Panel<'_> {
         if self.received.text != self.call.text {
             report_received(self.received, &mut words);
         }
-        self.opinions.push(Opinion { of, words, memory });
+        let row = if is_list(self.call) { TOLD } else { words.len() };
+        let rows = words.chunks(row).map(<[u64]>::to_vec).collect();
+        self.opinions.push(Opinion { of, rows, memory });
     }
 
     /// A function that returns the bytes to write.
@@ -82,7 +102,7 @@ fn report_received(call: &Call, words: &mut [u64]) {
     match call.entry {
         Entry::EncoderUpdate if words[6] == 1 => exchange(call.numbers[1], &mut words[7..9]),
         Entry::EncodeSequence | Entry::EncoderList => {
-            words.chunks_mut(4).filter(|answer| answer[0] == 5).for_each(|answer| exchange(0, &mut answer[2..]));
+            words.chunks_mut(TOLD).filter(|answer| answer[0] == 5).for_each(|answer| exchange(0, &mut answer[2..]));
         }
         _ => {}
     }
@@ -90,10 +110,9 @@ fn report_received(call: &Call, words: &mut [u64]) {
 
 /// The opinions of the Rust on a call that document 01 answers with `expected`; none outside demand 2's domain.
 pub fn opinions(call: &Call, before: &Memory, expected: &[u64]) -> Vec<Opinion> {
-    let list = matches!(call.entry, Entry::EncoderList | Entry::StreamList);
-    let refusals = expected.iter().step_by(if list { 4 } else { expected.len() });
+    let mut refusals = expected.iter().step_by(call.entry.shape().width());
     let stream = call.entry == Entry::StreamList; // its only refusal is the end call's, which the Rust has not
-    let inside = stream || refusals.clone().all(|&number| number == 0 || number == 5);
+    let inside = stream || refusals.all(|&number| number == 0 || number == 5);
     let answers_no_refusal = matches!(call.entry, Entry::AbiVersion | Entry::GuesserNew);
     let mut panel = Panel { call: &asked(call), received: call, before, opinions: Vec::new() };
     if call.alphabet().unwrap_or(0) > 5 || !(inside || answers_no_refusal) {
@@ -200,13 +219,13 @@ fn of_packing(panel: &mut Panel) {
 
 /// An encoder in the state that the call hands in, which is sound.
 fn forged(call: &Call) -> SequenceEncoder {
-    let [_, seen, pending_bits, pending, has_bad, position, byte, _] = call.numbers;
+    let [_, seen, pending_bits, pending, has_bad, position, byte, ..] = call.numbers;
     let first_bad = (has_bad == 1).then_some((position as usize, byte as u8));
     let state = State { symbols_seen: seen as usize, buffer: pending, buffer_bits: pending_bits as usize, first_bad };
     inside::encoder(kind(call), state)
 }
 
-/// The state of the Rust's encoder; it has no choice to tell.
+/// The state of the Rust's encoder; it has no choice to tell, and no count.
 fn next_words(alphabet: u64, encoder: &SequenceEncoder) -> Vec<u64> {
     let state = inside::state(encoder);
     let (position, byte) = state.first_bad.unwrap_or((0, 0));

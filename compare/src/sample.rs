@@ -13,7 +13,7 @@ pub type Go = Result<(), std::convert::Infallible>;
 fn lines(entry: Entry) -> usize {
     match entry {
         Entry::EncoderNew => 120,
-        _ if entry.shape().numbers.ends_with("fold") => 350,
+        _ if entry.shape().numbers.contains("fold") => 350,
         _ => 300,
     }
 }
@@ -97,9 +97,12 @@ fn group(call: &Call, words: &[u64]) -> [u64; 4] {
         _ => call.alphabet().map_or(0, |number| number.min(6)),
     };
     let told = match call.entry {
+        // How many non-members are told, known or said to be known: none, one or more.
+        Entry::EncoderFinalize | Entry::EncodeSequence if refusal == 5 => words[4].min(2),
+        Entry::EncoderUpdate if refusal == 0 => words[10].min(2),
+        Entry::EncoderUpdate | Entry::EncoderFinalize if refusal == 1 => call.numbers[8].min(2),
         Entry::Contains | Entry::EncoderFinalize => words[1],
-        Entry::EncoderUpdate if refusal == 0 => words[6], // whether a non-member is known
-        Entry::StreamRead => words[3],                    // the status
+        Entry::StreamRead => words[3], // the status
         Entry::ByteRange => u64::from(call.numbers[0] > call.numbers[1]),
         _ if call.entry.shape().layer == Layer::Windows => words[1].min(1), // whether the answer is empty
         _ => 0,

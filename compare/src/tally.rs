@@ -1,7 +1,7 @@
 //! Document 01's record: what a list of calls answers, told from the text or the lent bytes alone and not from states.
 
 use crate::case::{Call, Memory};
-use crate::model::{base, chosen, first_stranger, packed, stream_status, width, Intake, HUNGRY, LIMIT};
+use crate::model::{base, chosen, first_stranger, packed, strangers, stream_status, width, Intake, HUNGRY, LIMIT};
 
 /// A list of `update` and `finalize` calls from a fresh encoder. Each update gets the next bytes of the call's text,
 /// also after a refusal; an accepted `finalize` ends the list.
@@ -36,24 +36,25 @@ pub fn encoder(call: &Call, memory: &mut Memory) -> Vec<u64> {
             text.extend(piece);
             out[..whole.len()].copy_from_slice(&packed(intake, &text)[whole.clone()]);
         }
-        words.extend([refusal, if refusal == 0 { whole.len() as u64 } else { 0 }, 0, 0]);
+        words.extend([refusal, if refusal == 0 { whole.len() as u64 } else { 0 }, 0, 0, 0]);
     }
     words
 }
 
-fn finalize(intake: Intake, text: &[u8], out: &mut [u8]) -> [u64; 4] {
+/// The text is that of the accepted pieces joined, and the count that of its non-members.
+fn finalize(intake: Intake, text: &[u8], out: &mut [u8]) -> [u64; 5] {
     if let Some((position, byte)) = first_stranger(intake, text) {
-        return [5, 0, position, u64::from(byte)];
+        return [5, 0, position, u64::from(byte), strangers(intake, text)];
     }
     if text.len() as u64 * intake.width() % 8 == 0 {
-        return [0, 0, 0, 0];
+        return [0, 0, 0, 0, 0];
     }
     match (out.first_mut(), packed(intake, text).last()) {
         (Some(place), Some(&last)) => {
             *place = last;
-            [0, 1, 0, 0]
+            [0, 1, 0, 0, 0]
         }
-        _ => [4, 0, 0, 0],
+        _ => [4, 0, 0, 0, 0],
     }
 }
 

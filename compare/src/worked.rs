@@ -1,5 +1,5 @@
 //! Document 01's worked table, row by row: it holds the model to the document's own figures. Its rows do not fold; those
-//! of document 02's first request, which do, stand behind them.
+//! of document 02's first request, which do, stand behind them, and those of its fifth, which count non-members.
 
 use crate::case::{Call, Entry, Step};
 use crate::check::{Checker, Go};
@@ -7,7 +7,7 @@ use crate::model::{DONE, FULL, HUNGRY, LIMIT};
 
 /// All rows.
 pub fn rows(check: &mut Checker) -> Go {
-    let rows = [guesses(), packings(), windows(), streams(), folded()].concat();
+    let rows = [guesses(), packings(), windows(), streams(), folded(), counted()].concat();
     for (call, words, bytes) in rows {
         check.row(&call, &words, &bytes)?;
     }
@@ -28,7 +28,7 @@ fn guesses() -> Vec<Row> {
 fn packings() -> Vec<Row> {
     let packed = |alphabet: u64, text: &[u8], bytes: &[u8]| {
         let call = Call::new(Entry::EncodeSequence, &[alphabet, 0]).text(text).room(bytes.len() + 1);
-        (call, vec![0, bytes.len() as u64, 0, 0], bytes.to_vec())
+        (call, vec![0, bytes.len() as u64, 0, 0, 0], bytes.to_vec())
     };
     let steps = vec![Step { length: 4, room: 1, last: false }, Step { length: 0, room: 1, last: true }];
     vec![
@@ -37,10 +37,10 @@ fn packings() -> Vec<Row> {
         packed(1, b"ACGTNRYU", &[0x05, 0x39, 0x77]),
         packed(2, b"NACM", &[0x01, 0x23]),
         packed(3, b"MK*", &[0x52, 0x28]),
-        (Call::new(Entry::EncodeSequence, &[0, 0]).text(b"ACNT").room(1), vec![5, 0, 2, 0x4E], vec![]),
+        (Call::new(Entry::EncodeSequence, &[0, 0]).text(b"ACNT").room(1), vec![5, 0, 2, 0x4E, 1], vec![]),
         (
             Call::new(Entry::EncoderList, &[0, 0]).text(b"ACNT").steps(steps),
-            vec![0, 1, 0, 0, 5, 0, 2, 0x4E],
+            vec![0, 1, 0, 0, 0, 5, 0, 2, 0x4E, 1],
             vec![0x9C],
         ),
         (Call::new(Entry::ByteRange, &[2, 6, 3]), vec![0, 0, 3], vec![]),
@@ -94,12 +94,12 @@ fn streams() -> Vec<Row> {
 /// What the choice to fold makes of rows of the table; that of a state, and the sentences on Ascii and on a refusal 5.
 fn folded() -> Vec<Row> {
     let guess = |text: &[u8], number: u64| (Call::new(Entry::GuessAlphabet, &[1]).text(text), vec![0, number], vec![]);
-    let packed = |alphabet: u64, fold: u64, text: &[u8], words: [u64; 4], bytes: &[u8]| {
+    let packed = |alphabet: u64, fold: u64, text: &[u8], words: [u64; 5], bytes: &[u8]| {
         let call = Call::new(Entry::EncodeSequence, &[alphabet, fold]).text(text).room(text.len());
         (call, words.to_vec(), bytes.to_vec())
     };
-    let finalize = |alphabet: u64, byte: u64, fold: u64, words: [u64; 4]| {
-        (Call::new(Entry::EncoderFinalize, &[alphabet, 4, 0, 0, 1, 2, byte, fold]), words.to_vec(), vec![])
+    let finalize = |alphabet: u64, byte: u64, fold: u64, words: [u64; 5]| {
+        (Call::new(Entry::EncoderFinalize, &[alphabet, 4, 0, 0, 1, 2, byte, fold, 1]), words.to_vec(), vec![])
     };
     vec![
         guess(b"acgt", 0),
@@ -108,17 +108,49 @@ fn folded() -> Vec<Row> {
         guess(b"acgx", 3),
         guess(b"ac`gt", 4),
         guess(b"acgt{", 4),
-        packed(0, 1, b"acGT", [0, 1, 0, 0], &[0x9C]),
-        packed(0, 1, b"acnt", [5, 0, 2, 0x6E], &[]),
-        packed(0, 1, b"AC{t", [5, 0, 2, 0x7B], &[]),
-        packed(0, 0, b"acnt", [5, 0, 0, 0x61], &[]),
-        packed(3, 1, b"mk*", [0, 2, 0, 0], &[0x52, 0x28]),
-        packed(4, 1, b"aZ", [0, 2, 0, 0], b"aZ"),
-        packed(5, 1, b"aZ", [0, 2, 0, 0], b"aZ"),
-        finalize(0, 0x61, 0, [5, 0, 2, 0x61]),
-        finalize(0, 0x61, 1, [1, 0, 0, 0]),
-        finalize(0, 0x6E, 1, [5, 0, 2, 0x6E]),
-        finalize(0, 0x6E, 2, [1, 0, 0, 0]),
-        finalize(6, 0x6E, 2, [8, 0, 0, 0]),
+        packed(0, 1, b"acGT", [0, 1, 0, 0, 0], &[0x9C]),
+        packed(0, 1, b"acnt", [5, 0, 2, 0x6E, 1], &[]),
+        packed(0, 1, b"AC{t", [5, 0, 2, 0x7B, 1], &[]),
+        packed(0, 0, b"acnt", [5, 0, 0, 0x61, 4], &[]),
+        packed(3, 1, b"mk*", [0, 2, 0, 0, 0], &[0x52, 0x28]),
+        packed(4, 1, b"aZ", [0, 2, 0, 0, 0], b"aZ"),
+        packed(5, 1, b"aZ", [0, 2, 0, 0, 0], b"aZ"),
+        finalize(0, 0x61, 0, [5, 0, 2, 0x61, 1]),
+        finalize(0, 0x61, 1, [1, 0, 0, 0, 0]),
+        finalize(0, 0x6E, 1, [5, 0, 2, 0x6E, 1]),
+        finalize(0, 0x6E, 2, [1, 0, 0, 0, 0]),
+        finalize(6, 0x6E, 2, [8, 0, 0, 0, 0]),
     ]
+}
+
+/// What the sentences on the count of non-members make of texts, pieces and states, told by hand.
+fn counted() -> Vec<Row> {
+    let packed = |fold: u64, text: &[u8], words: [u64; 5]| {
+        (Call::new(Entry::EncodeSequence, &[0, fold]).text(text).room(text.len()), words.to_vec(), vec![])
+    };
+    // Four symbols seen, N at 2 the first that is no base, and so many in all.
+    let finalize = |has_bad: u64, count: u64, words: [u64; 5]| {
+        let state = [0, 4, 0, 0, has_bad, 2, 0x4E, 0, count];
+        (Call::new(Entry::EncoderFinalize, &state), words.to_vec(), vec![])
+    };
+    vec![
+        packed(0, b"NCNT", [5, 0, 0, 0x4E, 2]),
+        packed(0, b"ACgtN", [5, 0, 2, 0x67, 3]),
+        packed(1, b"ACgtN", [5, 0, 4, 0x4E, 1]),
+        pieces(&[(b"ACGT", 1), (b"NANN", 1)], &[[0, 1, 0, 0, 0], [0, 1, 0, 0, 0], [5, 0, 4, 0x4E, 3]]),
+        pieces(&[(b"ANNA", 1), (b"NNNN", 0)], &[[0, 1, 0, 0, 0], [4, 0, 0, 0, 0], [5, 0, 1, 0x4E, 2]]),
+        finalize(1, 2, [5, 0, 2, 0x4E, 2]),
+        finalize(1, 3, [1, 0, 0, 0, 0]),
+        finalize(1, 0, [1, 0, 0, 0, 0]),
+        finalize(0, 0, [0, 0, 0, 0, 0]),
+        finalize(0, 1, [1, 0, 0, 0, 0]),
+    ]
+}
+
+/// Pieces of Dna2bit, each with its room, then `finalize`.
+fn pieces(pieces: &[(&[u8], usize)], answers: &[[u64; 5]]) -> Row {
+    let text: Vec<u8> = pieces.iter().flat_map(|(piece, _)| piece.to_vec()).collect();
+    let updates = pieces.iter().map(|&(piece, room)| Step { length: piece.len(), room, last: false });
+    let steps = updates.chain([Step { length: 0, room: 1, last: true }]).collect();
+    (Call::new(Entry::EncoderList, &[0, 0]).text(&text).steps(steps), answers.concat(), vec![])
 }

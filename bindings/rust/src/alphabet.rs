@@ -65,7 +65,7 @@ impl Alphabet {
 
 /// The value of a call about an alphabet that there is.
 fn known(answer: raw::Number) -> u64 {
-    accepted(answer.refusal, 0, 0).expect("the alphabet is one of the six");
+    accepted(answer.refusal).expect("the alphabet is one of the six");
     answer.value
 }
 
@@ -83,7 +83,7 @@ impl fmt::Display for Alphabet {
         let mut name = [0; 8];
         // SAFETY: the memory is lent with its length.
         let answer = unsafe { raw::fc_display_name(self.number(), name.as_mut_ptr(), name.len()) };
-        accepted(answer.refusal, 0, 0).expect("a name has at most 7 bytes");
+        accepted(answer.refusal).expect("a name has at most 7 bytes");
         f.pad(std::str::from_utf8(&name[..answer.count as usize]).expect("names are ASCII"))
     }
 }
@@ -106,7 +106,7 @@ impl fmt::Display for Alphabet {
 /// assert_eq!(decode_covered(alphabet, &packed, 0, 0, 4)?, b"ACGT");
 ///
 /// let refused = encode_sequence(alphabet, Folding::On, b"acnt");
-/// assert_eq!(refused, Err(Error::NotMember { position: 2, byte: b'n' }));
+/// assert_eq!(refused, Err(Error::NotMember { position: 2, byte: b'n', count: 1 }));
 /// # Ok::<(), Error>(())
 /// ```
 #[derive(Clone, Copy, Debug, Default, PartialEq, Eq, Hash)]
@@ -176,7 +176,7 @@ impl Guesser {
     pub fn update(&mut self, text: &[u8]) -> Result<()> {
         // SAFETY: the text is lent with its length.
         let answer = unsafe { raw::fc_guesser_update(self.state, text.as_ptr(), text.len()) };
-        accepted(answer.refusal, 0, 0)?;
+        accepted(answer.refusal)?;
         self.state = answer.next;
         Ok(())
     }
@@ -185,7 +185,7 @@ impl Guesser {
     pub fn guess(&self) -> Result<Alphabet> {
         // SAFETY: only numbers are passed.
         let answer = unsafe { raw::fc_guesser_guess(self.state) };
-        accepted(answer.refusal, 0, 0)?;
+        accepted(answer.refusal)?;
         Alphabet::try_from(answer.value)
     }
 }

@@ -14,12 +14,16 @@ pub enum Error {
     Uncovered,
     /// 4: the output memory is shorter than what would be written.
     ShortMemory,
-    /// 5: a byte that is no symbol of the alphabet; the first one.
+    /// 5: a byte that is no symbol of the alphabet; the first one, and how many there are.
+    ///
+    /// A position alone does not tell a stray letter from a wrong file; the count, beside the text's length, does.
     NotMember {
         /// Its position in the text, over all pieces.
         position: u64,
         /// The byte as it was received, folding or not.
         byte: u8,
+        /// How many bytes of the text, over all pieces, are no members, this one included.
+        count: u64,
     },
     /// 6: a skip of more than 7 bits.
     BadSkip,
@@ -54,19 +58,24 @@ impl Error {
     }
 }
 
+/// The refusal of a call that has no values to tell; none for 0.
+pub(crate) fn accepted(refusal: u64) -> Result<()> {
+    accepted_or(refusal, [0; 3])
+}
+
 /// The refusal that a number and its values stand for; none for 0.
 ///
-/// The two values are position and byte of 5, bases and nothing of 7.
-pub(crate) fn accepted(refusal: u64, first: u64, second: u64) -> Result<()> {
+/// The values are position, byte and count of 5, and the bases of 7.
+pub(crate) fn accepted_or(refusal: u64, values: [u64; 3]) -> Result<()> {
     Err(match refusal {
         0 => return Ok(()),
         1 => Error::Unsound,
         2 => Error::TooFar,
         3 => Error::Uncovered,
         4 => Error::ShortMemory,
-        5 => Error::NotMember { position: first, byte: second as u8 },
+        5 => Error::NotMember { position: values[0], byte: values[1] as u8, count: values[2] },
         6 => Error::BadSkip,
-        7 => Error::Outstanding { bases: first },
+        7 => Error::Outstanding { bases: values[0] },
         8 => Error::NoAlphabet,
         9 => Error::TooWide,
         // an archive of another version: none of its answers can be read by this crate
@@ -82,7 +91,13 @@ impl fmt::Display for Error {
             Error::TooFar => f.write_str("position above 2^60"),
             Error::Uncovered => f.write_str("bytes of the range not lent"),
             Error::ShortMemory => f.write_str("output memory too short"),
-            Error::NotMember { position, byte } => write!(f, "byte {byte:02X} at position {position} is no member"),
+            Error::NotMember { position, byte, count } => {
+                write!(f, "byte {byte:02X} at position {position} is no member, ")?;
+                match count {
+                    1 => f.write_str("the only one"),
+                    _ => write!(f, "the first of {count}"),
+                }
+            }
             Error::BadSkip => f.write_str("skip above 7"),
             Error::Outstanding { bases } => write!(f, "stream not complete, {bases} bases outstanding"),
             Error::NoAlphabet => f.write_str("no such alphabet"),

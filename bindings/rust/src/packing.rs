@@ -1,6 +1,6 @@
 //! Packing: whole texts, texts in pieces, and the bytes that hold a window.
 
-use crate::error::accepted;
+use crate::error::{accepted, accepted_or};
 use crate::memory::owned;
 use crate::{raw, Alphabet, Error, Folding, Result};
 use std::fmt;
@@ -8,13 +8,14 @@ use std::ops::Range;
 
 /// The count of an answer of the packing calls.
 fn packed(answer: raw::Packed) -> Result<usize> {
-    accepted(answer.refusal, answer.position, answer.byte)?;
+    accepted_or(answer.refusal, [answer.position, answer.byte, answer.bad_count])?;
     Ok(answer.count as usize)
 }
 
 /// Packs a text into the front of `out` and answers the byte count, `(len * bits + 7) / 8`.
 ///
-/// Refuses a text above 2^60 bytes, memory that is too short, then a byte that is no member; nothing is written then.
+/// Refuses a text above 2^60 bytes, memory that is too short, then a byte that is no member, with the number of all of
+/// them; nothing is written then.
 pub fn encode_sequence_into(alphabet: Alphabet, folding: Folding, text: &[u8], out: &mut [u8]) -> Result<usize> {
     let (number, fold, room) = (alphabet.number(), folding.number(), out.len());
     // SAFETY: both memories are lent with their lengths, and `out` is borrowed alone.
@@ -29,7 +30,9 @@ pub fn encode_sequence_into(alphabet: Alphabet, folding: Folding, text: &[u8], o
 /// assert_eq!(encode_sequence(Alphabet::Dna2bit, Folding::Off, b"ACGT")?, [0x9C]);
 /// assert_eq!(encode_sequence(Alphabet::Dna2bit, Folding::On, b"ACgt")?, [0x9C]);
 /// let refused = encode_sequence(Alphabet::Dna2bit, Folding::Off, b"ACNT");
-/// assert_eq!(refused, Err(Error::NotMember { position: 2, byte: b'N' }));
+/// assert_eq!(refused, Err(Error::NotMember { position: 2, byte: b'N', count: 1 }));
+/// let protein = encode_sequence(Alphabet::Dna2bit, Folding::Off, b"ACDEFGHIKLMN");
+/// assert_eq!(protein, Err(Error::NotMember { position: 2, byte: b'D', count: 9 }));
 /// # Ok::<(), Error>(())
 /// ```
 pub fn encode_sequence(alphabet: Alphabet, folding: Folding, text: &[u8]) -> Result<Vec<u8>> {
@@ -40,8 +43,9 @@ pub fn encode_sequence(alphabet: Alphabet, folding: Folding, text: &[u8]) -> Res
 /// Packs a text that comes in pieces.
 ///
 /// Each `update` gives the bytes that its piece completes, `finalize` the last one where bits pend; joined they are what
-/// [`encode_sequence`] gives for the pieces joined, by the same choice to fold. A byte that is no member is reported by `finalize`, with its position
-/// over all pieces. A refused `update` leaves the encoder as it was.
+/// [`encode_sequence`] gives for the pieces joined, by the same choice to fold. A byte that is no member is reported by
+/// `finalize`, with the position of the first and the number of all of them, over all pieces. A refused `update` leaves
+/// the encoder as it was: its piece is not counted.
 ///
 /// `finalize` ends the text and takes the encoder; a refused one hands it back ([`FinalizeError`]).
 ///
@@ -54,6 +58,20 @@ pub fn encode_sequence(alphabet: Alphabet, folding: Folding, text: &[u8]) -> Res
 /// packed.extend(encoder.finalize()?);
 /// assert_eq!(packed, [0x05, 0x39, 0x77]);
 /// # Ok::<(), fantailclock::Error>(())
+/// ```
+///
+/// What is no member, over two pieces:
+///
+/// ```
+/// use fantailclock::{Alphabet, Error, Folding, SequenceEncoder};
+///
+/// let mut encoder = SequenceEncoder::new(Alphabet::Dna2bit, Folding::Off);
+/// encoder.update(b"ACNT")?;
+/// encoder.update(b"NNAC")?;
+/// let refused = encoder.finalize().unwrap_err().error();
+/// assert_eq!(refused, Error::NotMember { position: 2, byte: b'N', count: 3 });
+/// assert_eq!(refused.to_string(), "refused by 5: byte 4E at position 2 is no member, the first of 3");
+/// # Ok::<(), Error>(())
 /// ```
 ///
 /// An ended text takes no more pieces, which would give bytes that are no packing:
@@ -77,7 +95,7 @@ impl SequenceEncoder {
     pub fn new(alphabet: Alphabet, folding: Folding) -> SequenceEncoder {
         // SAFETY: only numbers are passed.
         let started = unsafe { raw::fc_encoder_new(alphabet.number(), folding.number()) };
-        accepted(started.refusal, 0, 0).expect("the alphabet is one of the six");
+        accepted(started.refusal).expect("the alphabet is one of the six");
         SequenceEncoder { state: started.next }
     }
 
@@ -97,7 +115,7 @@ impl SequenceEncoder {
         let room = out.len();
         // SAFETY: both memories are lent with their lengths, and `out` is borrowed alone.
         let answer = unsafe { raw::fc_encoder_update(self.state, piece.as_ptr(), piece.len(), out.as_mut_ptr(), room) };
-        accepted(answer.refusal, 0, 0)?;
+        accepted(answer.refusal)?;
         self.state = answer.next;
         Ok(answer.count as usize)
     }
@@ -112,8 +130,8 @@ impl SequenceEncoder {
     /// Ends the text: writes the last byte to the front of `out` where bits pend, with zeros behind them, and answers 1,
     /// else 0.
     ///
-    /// Refuses a text with a byte that is no member, then memory that is too short; the encoder is in the error then, and
-    /// may go on.
+    /// Refuses a text with a byte that is no member, and tells how many there are; then memory that is too short. The
+    /// encoder is in the error then, and may go on.
     ///
     /// ```
     /// use fantailclock::{Alphabet, Error, Folding, SequenceEncoder};
@@ -194,6 +212,6 @@ impl std::error::Error for FinalizeError {}
 pub fn byte_range_for_bases(start: u64, end: u64, bits: u64) -> Result<Range<u64>> {
     // SAFETY: only numbers are passed.
     let answer = unsafe { raw::fc_byte_range_for_bases(start, end, bits) };
-    accepted(answer.refusal, 0, 0)?;
+    accepted(answer.refusal)?;
     Ok(answer.start..answer.end)
 }

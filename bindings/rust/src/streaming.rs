@@ -1,6 +1,6 @@
 //! Streams: a window decoded from bytes as they come.
 
-use crate::error::accepted;
+use crate::error::{accepted, accepted_or};
 use crate::{byte_range_for_bases, raw, Alphabet, Error, Result};
 use std::io::{self, Read};
 
@@ -53,7 +53,7 @@ impl Stream {
     pub fn new(alphabet: Alphabet, skip: u64, budget: u64) -> Result<Stream> {
         // SAFETY: only numbers are passed.
         let started = unsafe { raw::fc_stream_new(alphabet.number(), skip, budget) };
-        accepted(started.refusal, 0, 0)?;
+        accepted(started.refusal)?;
         Ok(Stream { state: started.next })
     }
 
@@ -83,7 +83,7 @@ impl Stream {
         let room = out.len();
         // SAFETY: both memories are lent with their lengths, and `out` is borrowed alone.
         let answer = unsafe { raw::fc_stream_read(self.state, source.as_ptr(), source.len(), out.as_mut_ptr(), room) };
-        accepted(answer.refusal, 0, 0)?;
+        accepted(answer.refusal)?;
         let status = match answer.status {
             1 => Status::Hungry,
             2 => Status::Done,
@@ -98,7 +98,7 @@ impl Stream {
     pub fn end(self) -> Result<()> {
         // SAFETY: only numbers are passed.
         let answer = unsafe { raw::fc_stream_end(self.state) };
-        accepted(answer.refusal, answer.outstanding, 0)
+        accepted_or(answer.refusal, [answer.outstanding, 0, 0])
     }
 
     /// The source bytes that a sound stream still needs for its next bases, so many or what is left of the budget;

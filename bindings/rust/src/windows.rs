@@ -9,7 +9,7 @@ use crate::{raw, Alphabet, Result};
 
 /// The count of a read's answer.
 fn bases(answer: raw::Count) -> Result<usize> {
-    accepted(answer.refusal, 0, 0)?;
+    accepted(answer.refusal)?;
     Ok(answer.count as usize)
 }
 

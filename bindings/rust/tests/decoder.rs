@@ -264,7 +264,7 @@ fn a_refused_update_leaves_the_encoder_as_it_was() {
     assert_eq!(encoder.update(b"T").unwrap(), [0x9C]);
     assert_eq!(encoder.update(b"acgt").unwrap(), [0xFF], "non-members pack as ones");
     let refused = encoder.clone().finalize().unwrap_err();
-    assert_eq!(refused.error(), Error::NotMember { position: 2, byte: b'N' });
+    assert_eq!(refused.error(), Error::NotMember { position: 2, byte: b'N', count: 5 });
     assert_eq!(refused.into_encoder(), encoder, "a refused one is handed back as it was");
 }
 
@@ -294,7 +294,7 @@ fn a_refused_finalize_is_an_error_by_the_question_mark() {
         Ok(encoder.finalize_into(&mut [0])?)
     }
     assert_eq!(plain(b"ACGTA"), Ok(vec![0x9C, 0x80]));
-    assert_eq!(plain(b"ACN"), Err(Error::NotMember { position: 2, byte: b'N' }));
+    assert_eq!(plain(b"ACN"), Err(Error::NotMember { position: 2, byte: b'N', count: 1 }));
     assert_eq!(boxed(b"A").unwrap(), 1);
-    assert_eq!(boxed(b"N").unwrap_err().to_string(), "refused by 5: byte 4E at position 0 is no member");
+    assert_eq!(boxed(b"N").unwrap_err().to_string(), "refused by 5: byte 4E at position 0 is no member, the only one");
 }

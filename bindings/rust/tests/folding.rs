@@ -12,7 +12,9 @@ const CHOICES: [Folding; 2] = [Folding::Off, Folding::On];
 /// The answer for the uppercased text, with the byte that was received in place of the uppercase one.
 fn as_received<T>(answer: Result<T>, received: &[u8]) -> Result<T> {
     answer.map_err(|refusal| match refusal {
-        Error::NotMember { position, .. } => Error::NotMember { position, byte: received[position as usize] },
+        Error::NotMember { position, count, .. } => {
+            Error::NotMember { position, byte: received[position as usize], count }
+        }
         other => other,
     })
 }
@@ -119,7 +121,7 @@ fn every_byte_by_both_choices() {
             let expected = if model::contains(alphabet, stands) {
                 Ok(model::pack(alphabet, &[stands]))
             } else {
-                Err(Error::NotMember { position: 0, byte })
+                Err(Error::NotMember { position: 0, byte, count: 1 })
             };
             assert_eq!(encode_sequence(alphabet, folding, &[byte]), expected, "{alphabet} {folding:?} {byte}");
             let mut encoder = SequenceEncoder::new(alphabet, folding);

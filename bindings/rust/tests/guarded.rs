@@ -63,27 +63,73 @@ fn texts(harness: &mut Harness, alphabet: Alphabet, folding: Folding, text: &[u8
     }
 }
 
-/// A text whose last byte is the first non-member, and one whose first and last are none. Where the alphabet folds the byte
-/// is a lowercase letter if it can be.
-fn strangers(harness: &mut Harness, alphabet: Alphabet, folding: Folding, text: &[u8]) {
+/// A text whose last byte is the first non-member, one whose first and last are none, one with no member at all; whole, and
+/// behind so many symbols. Where the alphabet folds the byte is a lowercase letter if it can be.
+fn strangers(harness: &mut Harness, alphabet: Alphabet, folding: Folding, text: &[u8], before: usize) {
     let byte = match (alphabet, folding) {
         (Alphabet::Ascii | Alphabet::Unknown, _) => return,
         (_, Folding::Off) => b'a',
         (Alphabet::Protein, Folding::On) => b'{',
         (_, Folding::On) => b'x',
     };
-    let ends = if text.is_empty() { vec![] } else { vec![text.len() - 1, 0] };
-    for position in ends {
+    let (len, last) = match text.len() {
+        0 => return,
+        len => (len, len - 1),
+    };
+    for (first, strange, count) in [(last, 1, 1), (0, 1, len.min(2)), (0, len, len)] {
         let mut text = text.to_vec();
-        *text.last_mut().unwrap() = byte;
-        text[position] = byte;
+        text[first..first + strange].fill(byte);
+        text[last] = byte;
+        let refusal = Error::NotMember { position: first as u64, byte, count: count as u64 };
         harness.check(&Case {
             entry: "fc_encode_sequence",
-            about: format!("{alphabet}, folding {folding:?}, {} bytes, byte {position} is no member", text.len()),
+            about: format!("{alphabet}, folding {folding:?}, {len} bytes, {count} are no members"),
             input: &text,
-            room: text.len(),
-            expected: Err(Error::NotMember { position: position as u64, byte }),
+            room: len,
+            expected: Err(refusal),
             call: &|text, out| encode_sequence_into(alphabet, folding, text, out),
+        });
+        strange_pieces(harness, alphabet, folding, &text, before, refusal);
+    }
+}
+
+/// An update with non-members behind so many symbols, which counts them in its state, and the refusal of the end.
+fn strange_pieces(
+    harness: &mut Harness,
+    alphabet: Alphabet,
+    folding: Folding,
+    text: &[u8],
+    before: usize,
+    refusal: Error,
+) {
+    let (first, piece) = text.split_at(before.min(text.len()));
+    let fresh = SequenceEncoder::new(alphabet, folding).to_raw();
+    let (_, begun) = model::updated(&fresh, first);
+    let (written, next) = model::updated(&begun, piece);
+    let about = || format!("{alphabet}, folding {folding:?}, {} bytes behind {before}, {refusal}", piece.len());
+    for room in rooms(written.len()) {
+        harness.check(&Case {
+            entry: "fc_encoder_update",
+            about: about(),
+            input: piece,
+            room,
+            expected: fitting(&written, room),
+            call: &|piece, out| {
+                let mut encoder = SequenceEncoder::from_raw(begun);
+                let answer = encoder.update_into(piece, out);
+                assert_eq!(encoder.to_raw(), if answer.is_ok() { next } else { begun }, "{}", about());
+                answer
+            },
+        });
+    }
+    for room in [0, 1] {
+        harness.check(&Case {
+            entry: "fc_encoder_finalize",
+            about: about(),
+            input: &[],
+            room,
+            expected: Err(refusal),
+            call: &|_, out| Ok(SequenceEncoder::from_raw(next).finalize_into(out)?),
         });
     }
 }
@@ -226,7 +272,7 @@ fn texts_and_pieces() {
             let masked = random.soft_masked(&members);
             for (folding, text) in [(Folding::Off, &members), (Folding::On, &masked)] {
                 texts(&mut harness, alphabet, folding, text);
-                strangers(&mut harness, alphabet, folding, text);
+                strangers(&mut harness, alphabet, folding, text, len % 9);
                 for before in 0..9 {
                     pieces(&mut harness, alphabet, folding, text, before);
                 }

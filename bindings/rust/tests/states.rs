@@ -3,6 +3,9 @@
 mod support;
 
 use fantailclock::{raw, Alphabet, Error, FinalizeError, Guesser, SequenceEncoder, Status, Stream};
+use support::guard::{Case, Harness};
+use support::model;
+use support::random::Random;
 use support::table::{number, rows, Row, STATES};
 
 const PATTERN: [u8; 8] = [0xC3; 8];
@@ -60,6 +63,7 @@ fn encoder(numbers: &[u64]) -> raw::Encoder {
         bad_position: numbers[5],
         bad_byte: numbers[6],
         fold: numbers[7],
+        bad_count: numbers[8],
     }
 }
 
@@ -75,9 +79,10 @@ fn answered(state: raw::Encoder) -> raw::Encoder {
 #[test]
 fn encoders() {
     let states = states("encoder");
-    assert_eq!(states.len(), 106);
+    assert_eq!(states.len(), 188);
     for (row, numbers) in states {
         let state = encoder(&numbers);
+        assert_eq!(model::judged(&state), expected(&row), "the model is not the table's: {}", row.line);
         let mut out = PATTERN;
         let answer = unsafe { raw::fc_encoder_update(state, [].as_ptr(), 0, out.as_mut_ptr(), out.len()) };
         let next = if row.answer == "0" { answered(state) } else { state };
@@ -110,13 +115,14 @@ fn refused_pieces(row: &Row, state: raw::Encoder) {
     assert_eq!(out, PATTERN, "{}", row.line);
 }
 
-/// `finalize` of a state: its refusal; else 5 with the first non-member; else the pending bits with zeros behind them.
+/// `finalize` of a state: its refusal; else 5 with the first non-member and the count; else the pending bits with zeros
+/// behind them.
 fn last_byte(row: &Row, state: raw::Encoder) {
     let mut out = PATTERN;
     let mut after = PATTERN;
     let answer =
         SequenceEncoder::from_raw(state).finalize_into(&mut out).map_err(|refused| handed_back(refused, state));
-    let bad = Error::NotMember { position: state.bad_position, byte: state.bad_byte as u8 };
+    let bad = Error::NotMember { position: state.bad_position, byte: state.bad_byte as u8, count: state.bad_count };
     let wanted = match expected(row) {
         Err(refusal) => Err(refusal),
         Ok(()) if state.has_bad == 1 => Err(bad),
@@ -132,6 +138,90 @@ fn last_byte(row: &Row, state: raw::Encoder) {
     assert_eq!(answer, without_memory, "{}", row.line);
     let allocating = SequenceEncoder::from_raw(state).finalize().map(|last| last.len());
     assert_eq!(allocating.map_err(|refused| handed_back(refused, state)), wanted, "{}", row.line);
+}
+
+/// States that have seen so many symbols, with what they keep of non-members forged: every combination of numbers around
+/// their limits and of numbers that a narrower field would take for small ones.
+fn forged(alphabet: Alphabet, fold: u64, seen: u64) -> Vec<raw::Encoder> {
+    let pending_bits = seen % 8 * model::bits(alphabet) % 8;
+    let fresh = raw::Encoder { alphabet: alphabet.number(), seen, pending_bits, fold, ..raw::Encoder::default() };
+    let mut states = vec![];
+    for bad_position in [0, 2, seen.wrapping_sub(1), seen, seen + 1, 1 << 32, 1 << 60, u64::MAX] {
+        let most = seen.wrapping_sub(bad_position); // around 2^64 where the position is beyond what was seen
+        for bad_byte in [b'N', b'A', b'n', b'a', b'{', 255].map(u64::from).into_iter().chain([256 + 78, u64::MAX]) {
+            for bad_count in
+                [0, 1, 2, most.wrapping_sub(1), most, most.wrapping_add(1), seen, 256, (1 << 32) + 1, u64::MAX]
+            {
+                for has_bad in [0, 1, 2, 256, (1 << 32) + 1, u64::MAX] {
+                    states.push(raw::Encoder { has_bad, bad_position, bad_byte, bad_count, ..fresh });
+                }
+            }
+        }
+    }
+    states
+}
+
+/// `update` of a state by a piece: number for number the model's answer.
+fn updated(harness: &mut Harness, state: raw::Encoder, piece: &[u8]) {
+    let too_far = if state.seen + piece.len() as u64 > 1 << 60 { Err(Error::TooFar) } else { Ok(()) };
+    let answer = model::judged(&state).and(too_far).map(|()| model::updated(&state, piece));
+    let told = match &answer {
+        Ok((written, next)) => raw::Updated { refusal: 0, count: written.len() as u64, next: *next },
+        Err(refusal) => raw::Updated { refusal: refusal.number(), count: 0, next: state },
+    };
+    harness.check(&Case {
+        entry: "fc_encoder_update",
+        about: format!("{state:?}"),
+        input: piece,
+        room: 9,
+        expected: answer.map(|(written, _)| written),
+        call: &|piece, out| {
+            let answer = unsafe { raw::fc_encoder_update(state, piece.as_ptr(), piece.len(), out.as_mut_ptr(), 9) };
+            assert_eq!(answer, told, "{state:?}");
+            SequenceEncoder::from_raw(state).update_into(piece, out)
+        },
+    });
+}
+
+/// `finalize` of a state: number for number what the model judges, and the non-members as the state has them.
+fn finalized(harness: &mut Harness, state: raw::Encoder) {
+    let bad = Error::NotMember { position: state.bad_position, byte: state.bad_byte as u8, count: state.bad_count };
+    let pending = if state.has_bad == 1 { Err(bad) } else { Ok(state.pending_bits.min(1)) };
+    let last = model::judged(&state).and(pending);
+    let told = match last {
+        Ok(count) => raw::Packed { count, ..raw::Packed::default() },
+        Err(Error::NotMember { position, byte, count }) => {
+            raw::Packed { refusal: 5, count: 0, position, byte: u64::from(byte), bad_count: count }
+        }
+        Err(refusal) => raw::Packed { refusal: refusal.number(), ..raw::Packed::default() },
+    };
+    harness.check(&Case {
+        entry: "fc_encoder_finalize",
+        about: format!("{state:?}"),
+        input: &[],
+        room: 9,
+        expected: last.map(|count| vec![0; count as usize]), // what pends is zero
+        call: &|_, out| {
+            assert_eq!(unsafe { raw::fc_encoder_finalize(state, out.as_mut_ptr(), 9) }, told, "{state:?}");
+            Ok(SequenceEncoder::from_raw(state).finalize_into(out)?)
+        },
+    });
+}
+
+#[test]
+fn non_members_in_every_combination() {
+    let (mut harness, mut random, mut sound) = (Harness::new(), Random(10), 0);
+    for alphabet in Alphabet::ALL {
+        for (fold, seen) in [(0, 0), (1, 3), (0, 8), (1, (1 << 60) - 3), (0, 1 << 60)] {
+            for state in forged(alphabet, fold, seen) {
+                updated(&mut harness, state, [&b""[..], b"N", b"na{"][random.below(3) as usize]);
+                finalized(&mut harness, state);
+                sound += u64::from(state.has_bad == 1 && model::judged(&state).is_ok());
+            }
+        }
+    }
+    assert!(sound > 500, "few of them have non-members and are sound: {sound}");
+    println!("{} calls with forged states between guard pages", harness.calls);
 }
 
 /// Why it was refused; the state must be the one that was handed in.

@@ -8,7 +8,7 @@ use support::table::{bytes, hex, number, rows, text, WORKED};
 /// A refusal with its values, as the table writes it.
 fn refused(refusal: Error) -> String {
     match refusal {
-        Error::NotMember { position, byte } => format!("refused 5 {position} {byte:02X}"),
+        Error::NotMember { position, byte, count } => format!("refused 5 {position} {byte:02X} {count}"),
         Error::Outstanding { bases } => format!("refused 7 {bases}"),
         other => format!("refused {}", other.number()),
     }
@@ -131,7 +131,7 @@ fn answers(words: &[&'static str]) -> Vec<String> {
 /// Asks every row and compares.
 fn check_table() {
     let rows = rows(WORKED);
-    assert_eq!(rows.len(), 29 + 14);
+    assert_eq!(rows.len(), 29 + 14 + 13);
     for row in rows {
         let answers = answers(&row.words);
         assert!(!answers.is_empty(), "asked of nothing: {}", row.line);
@@ -184,12 +184,17 @@ fn refusals_by_number() {
         (
             encode_sequence(Alphabet::Dna2bit, Folding::Off, b"ACNT").unwrap_err(),
             5,
-            "refused by 5: byte 4E at position 2 is no member",
+            "refused by 5: byte 4E at position 2 is no member, the only one",
+        ),
+        (
+            encode_sequence(Alphabet::Dna2bit, Folding::Off, b"ACNTNNA").unwrap_err(),
+            5,
+            "refused by 5: byte 4E at position 2 is no member, the first of 3",
         ),
         (
             encode_sequence(Alphabet::Dna2bit, Folding::On, b"acnt").unwrap_err(),
             5,
-            "refused by 5: byte 6E at position 2 is no member",
+            "refused by 5: byte 6E at position 2 is no member, the only one",
         ),
         (Stream::new(Alphabet::Ascii, 8, 0).unwrap_err(), 6, "refused by 6: skip above 7"),
         (

@@ -40,8 +40,8 @@ fn folded_guess(bench: &mut Bench, name: &str, text: &[u8]) {
     let rust = || guess_alphabet(black_box(text)) as u64;
     assert_eq!(port_guess(1, &soft), rust(), "{name}: the port guesses another alphabet");
     let mut port = || _ = black_box(port_guess(1, &soft));
-    let mut unfolded = || _ = black_box(port_guess(0, text));
-    bench.folded(&row, &mut port, &mut || _ = black_box(rust()), &mut unfolded);
+    let mut plain = || _ = black_box(port_guess(0, text));
+    bench.beside(&row, &mut port, &mut || _ = black_box(rust()), &mut plain);
 }
 
 fn update(bench: &mut Bench, name: &str, text: &[u8], piece: usize) {

@@ -8,13 +8,15 @@ const LEGEND: &str = "\
 Mb/s: millions of bases a second; ns: nanoseconds a call. Ratios are of best times: below 1 the port is faster.
 memcpy copies as many bytes as the call writes (a guess: reads). The Rust returns a new Vec, the port writes into
 memory lent to it: alloc is the share of the Rust's best time that allocating and touching such a Vec takes by itself,
-and P/(R-a) the ratio without it. A row `folded ..` is the port folding a soft-masked text; the Rust works on the same
-text in uppercase, and so does the port without folding, in the same rounds: P/U is the ratio to that.
+and P/(R-a) the ratio without it. Some rows have the port beside itself too, in the same rounds, on a plain text, and
+P/plain is the ratio to that. In a row `folded ..` the port folds a soft-masked text; plain is the same in uppercase,
+not folded, which the Rust gets as well. In a row `bad ..` port and Rust pack nothing but non-members, in a row
+`stray ..` a text with one non-member in its first piece; plain is a text of members.
 ";
 
 /// The columns of the file that --tsv asks for: sizes of one call, times of one call in nanoseconds, ratios of best times.
-/// Where the Rust returns no Vec, `allocated` and `alloc_best_ns` are 0. Where the row does not fold, what is told of the
-/// port without folding is 0.
+/// Where the Rust returns no Vec, `allocated` and `alloc_best_ns` are 0. Where the port is not beside itself, what is told
+/// of a plain text is 0.
 const COLUMNS: [&str; 18] = [
     "row",
     "calls",
@@ -28,12 +30,12 @@ const COLUMNS: [&str; 18] = [
     "memcpy_best_ns",
     "memcpy_median_ns",
     "alloc_best_ns",
-    "unfolded_best_ns",
-    "unfolded_median_ns",
+    "plain_best_ns",
+    "plain_median_ns",
     "port_to_rust",
     "port_to_memcpy",
     "port_to_rust_less_alloc",
-    "port_to_unfolded",
+    "port_to_plain",
 ];
 
 /// One row: how often a round calls, and what a call handles and writes.
@@ -66,11 +68,11 @@ struct Figure {
     median: f64,
 }
 
-/// What a row's rounds gave; `unfolded` is all zeros where the row does not fold.
+/// What a row's rounds gave; `plain` is all zeros where the port is not beside itself.
 struct Figures {
     port: Figure,
     rust: Figure,
-    unfolded: Figure,
+    plain: Figure,
     copy: Figure,
     alloc: Figure,
 }
@@ -91,7 +93,10 @@ impl Bench {
         println!("Rounds: {}. Long rows: {} bases.", self.rounds, self.long);
         print!("{LEGEND}");
         let names = ["port", "median", "Rust", "median", "memcpy"].map(|name| format!("{name:>10}")).concat();
-        println!("{:36}{:>5}{names}{:>7}{:>9}{:>9}{:>9}{:>9}", "row", "", "alloc", "P/R", "P/copy", "P/(R-a)", "P/U");
+        println!(
+            "{:36}{:>5}{names}{:>7}{:>9}{:>9}{:>9}{:>9}",
+            "row", "", "alloc", "P/R", "P/copy", "P/(R-a)", "P/plain"
+        );
         self.table = COLUMNS.join("\t") + "\n";
     }
 
@@ -104,9 +109,9 @@ impl Bench {
         self.measure(row, &mut [port, rust]);
     }
 
-    /// Measures a row that folds, with the port's calls without folding beside it.
-    pub fn folded(&mut self, row: &Row, port: &mut dyn FnMut(), rust: &mut dyn FnMut(), unfolded: &mut dyn FnMut()) {
-        self.measure(row, &mut [port, rust, unfolded]);
+    /// Measures a row with the port's calls on a plain text beside it.
+    pub fn beside(&mut self, row: &Row, port: &mut dyn FnMut(), rust: &mut dyn FnMut(), plain: &mut dyn FnMut()) {
+        self.measure(row, &mut [port, rust, plain]);
     }
 
     /// In each round all sides take turns, the first to run changing with the round, then the copy and the allocation.
@@ -128,15 +133,15 @@ impl Bench {
             times[3].push(clock(&mut || copy(&from[..row.copied], &mut to[..row.copied], row.calls)));
             times[4].push(clock(&mut || allocate(row.allocated, row.calls)));
         }
-        let [port, rust, unfolded, copy, mut alloc] = times.map(|times| figure(times, row.calls));
+        let [port, rust, plain, copy, mut alloc] = times.map(|times| figure(times, row.calls));
         if row.allocated == 0 {
             alloc = Figure::default();
         }
-        self.print(row, &Figures { port, rust, unfolded, copy, alloc });
+        self.print(row, &Figures { port, rust, plain, copy, alloc });
     }
 
     fn print(&mut self, row: &Row, figures: &Figures) {
-        let Figures { port, rust, unfolded, copy, alloc } = figures;
+        let Figures { port, rust, plain, copy, alloc } = figures;
         let unit = if row.calls == 1 { "Mb/s" } else { "ns" };
         let show = |time: f64| match row.calls {
             1 => format!("{:>10.0}", row.bases as f64 * 1e3 / time),
@@ -145,13 +150,13 @@ impl Bench {
         let times = [port.best, port.median, rust.best, rust.median, copy.best].map(show).concat();
         let share =
             if row.allocated == 0 { "-".to_string() } else { format!("{:.1}%", 100.0 * alloc.best / rust.best) };
-        let of = [rust.best, copy.best, rust.best - alloc.best, unfolded.best];
+        let of = [rust.best, copy.best, rust.best - alloc.best, plain.best];
         let ratios = of.map(|time| if time > 0.0 { port.best / time } else { 0.0 });
         let shown = ratios.map(|ratio| if ratio > 0.0 { format!("{ratio:>9.2}") } else { String::new() }).concat();
         println!("{:36}{unit:>5}{times}{share:>7}{shown}", row.name);
         let sizes = [row.calls, row.bases, row.copied, row.allocated].map(|size| size.to_string());
         let all = [port, rust, copy].map(|figure| [figure.best, figure.median]).concat();
-        let times = [all, vec![alloc.best, unfolded.best, unfolded.median]].concat();
+        let times = [all, vec![alloc.best, plain.best, plain.median]].concat();
         let times: Vec<String> = times.iter().map(|time| format!("{time:.2}")).collect();
         let ratios = ratios.map(|ratio| format!("{ratio:.4}"));
         let fields = [sizes.join("\t"), times.join("\t"), ratios.join("\t")].join("\t");

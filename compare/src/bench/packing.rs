@@ -1,10 +1,13 @@
 //! Rows of packing, for one alphabet.
 
 use crate::abi;
-use crate::measure::{soft_masked, Bench, Row};
+use crate::measure::{self, soft_masked, Bench, Row};
 use crate::Sample;
-use oracle::digest::encoder::{encode_sequence, SequenceEncoder};
+use oracle::digest::encoder::{encode_sequence, EncodeError, SequenceEncoder};
 use std::hint::black_box;
+
+/// The piece of the rows that have the port beside itself.
+const PIECE: usize = 65536;
 
 pub fn rows(bench: &mut Bench, sample: &Sample) {
     let text = &sample.text;
@@ -13,8 +16,8 @@ pub fn rows(bench: &mut Bench, sample: &Sample) {
     for piece in [64, 4096, 65536] {
         let name = format!("update {piece} {}", sample.name);
         let row = row(&name, sample, &packed);
-        let mut port = || port_update(sample, 0, text, piece, &mut out);
-        bench.row(&row, &mut port, &mut || rust_update(sample, text, piece));
+        let mut port = || _ = black_box(port_update(sample, 0, text, piece, &mut out));
+        bench.row(&row, &mut port, &mut || _ = black_box(rust_update(sample, text, piece)));
         check(bench, &row, &out, &packed);
         out.fill(0x5A);
     }
@@ -24,6 +27,12 @@ pub fn rows(bench: &mut Bench, sample: &Sample) {
     bench.row(&row, &mut port, &mut || rust_sequence(sample, text));
     check(bench, &row, &out, &packed);
     folded(bench, sample);
+    if sample.number < 4 {
+        bad(bench, sample, &packed);
+    }
+    if sample.number == 0 {
+        stray(bench, sample, &packed);
+    }
 }
 
 /// The port folding a soft-masked text, beside the port and the Rust on the text in uppercase. Ascii does not fold: there
@@ -32,23 +41,64 @@ fn folded(bench: &mut Bench, sample: &Sample) {
     let (upper, soft) = (sample.text.to_ascii_uppercase(), soft_masked(&sample.text));
     let plain = encode_sequence(&upper, sample.table).expect("members only");
     let packed = if sample.number < 4 { plain.clone() } else { encode_sequence(&soft, sample.table).expect("members") };
-    let (mut out, mut unfolded_out) = (vec![0x5A; packed.len()], vec![0x5A; packed.len()]);
-    let name = format!("folded update 65536 {}", sample.name);
+    let (mut out, mut plain_out) = (vec![0x5A; packed.len()], vec![0x5A; packed.len()]);
+    let name = format!("folded update {PIECE} {}", sample.name);
     let update = row(&name, sample, &packed);
-    let mut port = || port_update(sample, 1, &soft, 65536, &mut out);
-    let mut unfolded = || port_update(sample, 0, &upper, 65536, &mut unfolded_out);
-    bench.folded(&update, &mut port, &mut || rust_update(sample, &upper, 65536), &mut unfolded);
+    let mut port = || _ = black_box(port_update(sample, 1, &soft, PIECE, &mut out));
+    let mut unfolded = || _ = black_box(port_update(sample, 0, &upper, PIECE, &mut plain_out));
+    bench.beside(&update, &mut port, &mut || _ = black_box(rust_update(sample, &upper, PIECE)), &mut unfolded);
     check(bench, &update, &out, &packed);
-    check(bench, &update, &unfolded_out, &plain);
+    check(bench, &update, &plain_out, &plain);
     out.fill(0x5A);
-    unfolded_out.fill(0x5A);
+    plain_out.fill(0x5A);
     let name = format!("folded encode_sequence {}", sample.name);
     let sequence = row(&name, sample, &packed);
     let mut port = || port_sequence(sample, 1, &soft, &mut out);
-    let mut unfolded = || port_sequence(sample, 0, &upper, &mut unfolded_out);
-    bench.folded(&sequence, &mut port, &mut || rust_sequence(sample, &upper), &mut unfolded);
+    let mut unfolded = || port_sequence(sample, 0, &upper, &mut plain_out);
+    bench.beside(&sequence, &mut port, &mut || rust_sequence(sample, &upper), &mut unfolded);
     check(bench, &sequence, &out, &packed);
-    check(bench, &sequence, &unfolded_out, &plain);
+    check(bench, &sequence, &plain_out, &plain);
+}
+
+/// A wrong file: any bytes that are no members, which pack as ones.
+fn bad(bench: &mut Bench, sample: &Sample, packed: &[u8]) {
+    let strangers: Vec<u8> = (0..=255).filter(|&byte| !sample.table.contains(byte)).collect();
+    let text = measure::text(&strangers, sample.text.len());
+    with_strangers(bench, sample, &format!("bad update {PIECE}"), &text, &vec![0xFF; packed.len()], packed);
+}
+
+/// A stray letter: one N in the first piece of a text of bases, which packs as G does, whose code is all ones.
+fn stray(bench: &mut Bench, sample: &Sample, packed: &[u8]) {
+    let with = |byte: u8| [&sample.text[..1000], &[byte], &sample.text[1001..]].concat();
+    let right = encode_sequence(with(b'G'), sample.table).expect("members only");
+    with_strangers(bench, sample, &format!("stray update {PIECE}"), &with(b'N'), &right, packed);
+}
+
+/// Port and Rust on a text with non-members, whose updates must write `right`, beside the port on the alphabet's text.
+fn with_strangers(bench: &mut Bench, sample: &Sample, kind: &str, text: &[u8], right: &[u8], packed: &[u8]) {
+    let name = format!("{kind} {}", sample.name);
+    let row = row(&name, sample, packed);
+    let (mut out, mut plain_out) = (vec![0x5A; right.len()], vec![0x5A; packed.len()]);
+    let mut port = || _ = black_box(port_update(sample, 0, text, PIECE, &mut out));
+    let mut plain = || _ = black_box(port_update(sample, 0, &sample.text, PIECE, &mut plain_out));
+    bench.beside(&row, &mut port, &mut || _ = black_box(rust_update(sample, text, PIECE)), &mut plain);
+    check(bench, &row, &out, right);
+    check(bench, &row, &plain_out, packed);
+    if bench.wants(&name) {
+        check_refusal(sample, &name, text, &mut out);
+    }
+}
+
+/// `finalize` must tell the position and the byte that the Rust's tells, and how many bytes its table has no code for.
+fn check_refusal(sample: &Sample, name: &str, text: &[u8], out: &mut [u8]) {
+    let told = port_update(sample, 0, text, PIECE, out);
+    let Err(EncodeError::InvalidSymbol { position, byte, .. }) = rust_update(sample, text, PIECE) else {
+        panic!("{name}: the Rust takes the text")
+    };
+    let count = text.iter().filter(|&&byte| !sample.table.contains(byte)).count();
+    let right =
+        abi::Packed { refusal: 5, count: 0, position: position as u64, byte: byte.into(), bad_count: count as u64 };
+    assert_eq!(told, right, "{name}: the port refuses otherwise");
 }
 
 fn row<'a>(name: &'a str, sample: &Sample, packed: &[u8]) -> Row<'a> {
@@ -70,7 +120,8 @@ fn rust_sequence(sample: &Sample, text: &[u8]) {
     drop(black_box(encode_sequence(black_box(text), sample.table)));
 }
 
-fn port_update(sample: &Sample, fold: u64, text: &[u8], piece: usize, out: &mut [u8]) {
+/// The answer of `finalize` behind the updates.
+fn port_update(sample: &Sample, fold: u64, text: &[u8], piece: usize, out: &mut [u8]) -> abi::Packed {
     let mut written = 0;
     // SAFETY: each pointer is lent with its length and the two memories are apart.
     let mut state = unsafe { abi::fc_encoder_new(sample.number, fold) }.next;
@@ -82,11 +133,11 @@ fn port_update(sample: &Sample, fold: u64, text: &[u8], piece: usize, out: &mut 
         state = answer.next;
     }
     let room = &mut out[written..];
-    black_box(unsafe { abi::fc_encoder_finalize(state, room.as_mut_ptr(), room.len()) }.count);
+    unsafe { abi::fc_encoder_finalize(state, room.as_mut_ptr(), room.len()) }
 }
 
-fn rust_update(sample: &Sample, text: &[u8], piece: usize) {
+fn rust_update(sample: &Sample, text: &[u8], piece: usize) -> Result<Vec<u8>, EncodeError> {
     let mut encoder = SequenceEncoder::new(sample.kind, text.len());
     black_box(text).chunks(piece).for_each(|piece| encoder.update(piece));
-    drop(black_box(encoder.finalize()));
+    encoder.finalize()
 }

@@ -3,6 +3,7 @@
  * each row, tab between: its name, the best time of each in nanoseconds, a call for windows and a pass for other rows, the ratio of these, and the median of
  * the rounds' own ratios. What the two leave in memory is compared, and a difference ends the program with 1.
  */
+#include <ctype.h>
 #include <stdio.h>
 #include <stdlib.h>
 #include <string.h>
@@ -23,7 +24,8 @@ static const struct {
     {"Ascii", "ACGTacgtNn", 8},
 };
 
-/* A row: its name, which function of a side makes it, the bases of a piece or a window, and how many of the alphabets have it. */
+/* A row: its name, which function of a side makes it, the bases of a piece or a window, and how many of the alphabets have it. One whose name begins with
+ * `folded` folds a soft-masked text, and is left out unless both libraries can. */
 static const struct {
     const char *name;
     size_t place, piece;
@@ -37,6 +39,10 @@ static const struct {
     {"update 4096", offsetof(struct side, update), 4096, 5},
     {"update 65536", offsetof(struct side, update), 65536, 5},
     {"encode_sequence", offsetof(struct side, encode_sequence), 0, 5},
+    {"folded update 64", offsetof(struct side, update), 64, 5},
+    {"folded update 4096", offsetof(struct side, update), 4096, 5},
+    {"folded update 65536", offsetof(struct side, update), 65536, 5},
+    {"folded encode_sequence", offsetof(struct side, encode_sequence), 0, 5},
     {"decode", offsetof(struct side, decode), 0, 5},
     {"window 1 zero-filling", offsetof(struct side, window), 1, 5},
     {"window 1 covered", offsetof(struct side, covered), 1, 5},
@@ -116,6 +122,20 @@ static void fill(uint8_t *text, size_t bases, const char *symbols) {
     for (size_t i = 0; i < bases; i++) text[i] = (uint8_t)symbols[next(&state) % count];
 }
 
+/* The text soft-masked: runs of 100 to 500 symbols, every other one of them in lowercase. */
+static void soft_mask(uint8_t *soft, const uint8_t *text, size_t bases) {
+    uint64_t state = 0x9E3779B97F4A7C15u;
+    size_t end = 0;
+    int lower = 1;
+    for (size_t i = 0; i < bases; i++) {
+        if (i == end) {
+            end += 100 + next(&state) % 401;
+            lower = !lower;
+        }
+        soft[i] = (uint8_t)(lower ? tolower(text[i]) : toupper(text[i]));
+    }
+}
+
 /* Where windows start: pseudo-random, so that a processor cannot foresee in which bit of a byte. */
 static void place(uint32_t *starts, size_t bases) {
     uint64_t state = 0xD1B54A32D192ED03u;
@@ -129,17 +149,21 @@ int main(int count, char **words) {
         fprintf(stderr, "usage: turns ROUNDS MEBI [WORD ..]\n");
         return 2;
     }
-    uint8_t *text = memory(bases), *packed = memory(bases), *earlier_out = memory(bases), *present_out = memory(bases);
+    uint8_t *text = memory(bases), *soft = memory(bases), *packed = memory(bases), *earlier_out = memory(bases), *present_out = memory(bases);
     static uint32_t starts[MOST_WINDOWS];
     for (int alphabet = 0; alphabet < 5; alphabet++) {
         uint64_t bits = alphabets[alphabet].bits;
         fill(text, bases, alphabets[alphabet].symbols);
-        struct work present = {alphabet, bits, text, packed, bases, (bases * bits + 7) / 8, 0, starts, packed, bases};
+        soft_mask(soft, text, bases);
+        struct work present = {alphabet, bits, 0, text, packed, bases, (bases * bits + 7) / 8, 0, starts, packed, bases};
         now.encode_sequence(&present);
         for (size_t i = 0; i < sizeof rows / sizeof *rows; i++) {
             char name[64];
             snprintf(name, sizeof name, "%s %s", rows[i].name, alphabets[alphabet].name);
-            if (alphabet >= rows[i].alphabets || !wanted(name, count - 3, words + 3)) continue;
+            int folds = strncmp(name, "folded", 6) == 0;
+            if (alphabet >= rows[i].alphabets || !wanted(name, count - 3, words + 3) || (folds && !(before.folds && now.folds))) continue;
+            present.fold = folds;
+            present.text = folds ? soft : text;
             present.piece = rows[i].piece;
             int reads_windows = strncmp(name, "window", 6) == 0;
             if (reads_windows) place(starts, rows[i].piece);

@@ -6,32 +6,34 @@
 
 #include "fantailclock.h"
 
-/* Version 1 has no choice to fold. */
+/* Version 1 has no choice to fold, and is asked for no row that does. Versions 2 and 3 differ in fields that no row names. */
 #if FC_ABI_VERSION == 1
-#define UNFOLDED_GUESSER() fc_guesser_new()
-#define UNFOLDED_GUESS(text, len) fc_guess_alphabet(text, len)
-#define UNFOLDED_ENCODER(alphabet) fc_encoder_new(alphabet)
-#define UNFOLDED_PACKING(alphabet, text, len, out, room) fc_encode_sequence(alphabet, text, len, out, room)
+#define FOLDS 0
+#define GUESSER(fold) fc_guesser_new()
+#define GUESS(fold, text, len) fc_guess_alphabet(text, len)
+#define ENCODER(alphabet, fold) fc_encoder_new(alphabet)
+#define PACKING(alphabet, fold, text, len, out, room) fc_encode_sequence(alphabet, text, len, out, room)
 #else
-#define UNFOLDED_GUESSER() fc_guesser_new(0)
-#define UNFOLDED_GUESS(text, len) fc_guess_alphabet(0, text, len)
-#define UNFOLDED_ENCODER(alphabet) fc_encoder_new(alphabet, 0)
-#define UNFOLDED_PACKING(alphabet, text, len, out, room) fc_encode_sequence(alphabet, 0, text, len, out, room)
+#define FOLDS 1
+#define GUESSER(fold) fc_guesser_new(fold)
+#define GUESS(fold, text, len) fc_guess_alphabet(fold, text, len)
+#define ENCODER(alphabet, fold) fc_encoder_new(alphabet, fold)
+#define PACKING(alphabet, fold, text, len, out, room) fc_encode_sequence(alphabet, fold, text, len, out, room)
 #endif
 
 static size_t least(size_t a, size_t b) { return a < b ? a : b; }
 
-static void guess(const struct work *work) { UNFOLDED_GUESS(work->text, work->bases); }
+static void guess(const struct work *work) { GUESS(work->fold, work->text, work->bases); }
 
 static void guesser_update(const struct work *work) {
-    fc_guesser state = UNFOLDED_GUESSER();
+    fc_guesser state = GUESSER(work->fold);
     for (size_t at = 0; at < work->bases; at += work->piece)
         state = fc_guesser_update(state, work->text + at, least(work->piece, work->bases - at)).next;
     fc_guesser_guess(state);
 }
 
 static void update(const struct work *work) {
-    fc_encoder state = UNFOLDED_ENCODER(work->alphabet).next;
+    fc_encoder state = ENCODER(work->alphabet, work->fold).next;
     size_t written = 0;
     for (size_t at = 0; at < work->bases; at += work->piece) {
         fc_updated answer = fc_encoder_update(state, work->text + at, least(work->piece, work->bases - at), work->out + written, work->room - written);
@@ -41,7 +43,7 @@ static void update(const struct work *work) {
     fc_encoder_finalize(state, work->out + written, work->room - written);
 }
 
-static void encode_sequence(const struct work *work) { UNFOLDED_PACKING(work->alphabet, work->text, work->bases, work->out, work->room); }
+static void encode_sequence(const struct work *work) { PACKING(work->alphabet, work->fold, work->text, work->bases, work->out, work->room); }
 
 static void decode(const struct work *work) {
     fc_decode_string_from_bytes(work->alphabet, work->packed, work->packed_bytes, work->bases, work->out, work->room);
@@ -74,4 +76,4 @@ static void stream(const struct work *work) {
     } while (answer.refusal == 0 && answer.written != 0);
 }
 
-const struct side SIDE = {guess, guesser_update, update, encode_sequence, decode, window, covered, stream};
+const struct side SIDE = {guess, guesser_update, update, encode_sequence, decode, window, covered, stream, FOLDS};

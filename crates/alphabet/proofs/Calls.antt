@@ -11,6 +11,7 @@ use lib.Dec.{leb, eqb, lit≤}
 use lib.ListN.{length, getD, take, List·getD-eq-default}
 use Rattle.alphabet.specs.Symbols.{coding, folded, folds, foldedEntries, codingBy}
 use Rattle.bits.specs.Tables.{at, tabulate, Bytes, bytesOf}
+use Rattle.bits.proofs.Tabulated.{is-tabulate}
 use Rattle.bits.proofs.Computed.{both-true}
 use Rattle.alphabet.specs.Questions.{ask_else_then_, Reply, accepted, refused, refusalReply, refusals, tells, firstTelling, by, numberIn}
 use Rattle.alphabet.specs.declared.refusal.Refusal.{Refusal}
@@ -41,7 +42,7 @@ is-refused Unsound = refl
 is-refused TooFar = refl
 is-refused Uncovered = refl
 is-refused ShortMemory = refl
-is-refused (NonMember position byte) = refl
+is-refused (NonMember position byte count) = refl
 is-refused BadSkip = refl
 is-refused (Outstanding bases) = refl
 is-refused NoAlphabet = refl
@@ -53,7 +54,7 @@ by-itself Unsound = refl
 by-itself TooFar = refl
 by-itself Uncovered = refl
 by-itself ShortMemory = refl
-by-itself (NonMember position byte) = refl
+by-itself (NonMember position byte count) = refl
 by-itself BadSkip = refl
 by-itself (Outstanding bases) = refl
 by-itself NoAlphabet = refl
@@ -63,25 +64,18 @@ by-itself TooWide = refl
 abbrev Made : List ℕ → Refusal → Type 0
 Made values q = length values ≡ length (valuesIn (refusalReply q)) → valuesIn (refusalReply q) ≡ values
 
-no-values : (values : List ℕ) → length values ≡ 0 → [] ≡ values
-no-values [] e = refl
-no-values (v ∷ values) e = absurd (omega arith)
-
-one-value : (values : List ℕ) → length values ≡ 1 → at values 0 ∷ [] ≡ values
-one-value [] e = absurd (omega arith)
-one-value (v ∷ values) e = ap (λ (l : List ℕ). v ∷ l) (no-values values (omega arith))
-
-two-values : (values : List ℕ) → length values ≡ 2 → at values 0 ∷ at values 1 ∷ [] ≡ values
-two-values [] e = absurd (omega arith)
-two-values (v ∷ values) e = ap (λ (l : List ℕ). v ∷ l) (one-value values (omega arith))
+-- a list of n values, written out
+these : (n : ℕ) (values : List ℕ) → length values ≡ n → tabulate n (at values) ≡ values
+these n values e = sym (is-tabulate n (at values) 0 values e (λ i h. refl))
 
 abbrev Each : (Refusal → Type 0) → List Refusal → Type 0
 Each P [] = Unit {0}
 Each P (q ∷ others) = P q × Each P others
 
 all-made : (values : List ℕ) → Each (Made values) (refusals values)
+unfolding tabulate
 all-made values =
-    let none = no-values values in (none, (none, (none, (none, (two-values values, (none, (one-value values, (none, (none, tt)))))))))
+    let none = these 0 values in (none, (none, (none, (none, (these 3 values, (none, (these 1 values, (none, (none, tt)))))))))
 
 -- the refusal that definitions write by a number and its values tells just these
 pub by-told : (number : ℕ) (values : List ℕ) (q : Refusal) → firstTelling number values (refusals values) ≡ some q → refusalReply q ≡ refused number values

@@ -10,3 +10,4 @@ pub mod Files
 pub mod Put
 pub mod Appended
 pub mod Alike
+pub mod Counted

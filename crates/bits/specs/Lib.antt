@@ -1,4 +1,5 @@
 pub mod Tables
+pub mod Counts
 pub mod Streams
 pub mod Packing
 pub mod Memory

@@ -1,4 +1,5 @@
 // The coder layer under one name: packing, windows and the stream, over the alphabets' promises.
+pub use packing::Bad;
 pub use packing::Encoded;
 pub use packing::EncoderStarted;
 pub use packing::Finalized;

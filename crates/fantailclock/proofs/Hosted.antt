@@ -52,7 +52,7 @@ module _ (n fold : ℕ) (text memory : List ℕ) (f : Bool) (c : f ≡ chosen fo
     chosen-answer : x ≡ encodeAt n (chosen fold) text (length memory)
     chosen-answer = h ∙ ap (λ (g : Bool). encodeAt n g text (length memory)) c
 
-    pub encode-wrote : (count : ℕ) → x ≡ Encoded.Wrote count → Told (record { refusal = 0; count = count; position = 0; byte = 0 })
+    pub encode-wrote : (count : ℕ) → x ≡ Encoded.Wrote count → Told (record { refusal = 0; count = count; position = 0; byte = 0; «bad_count» = 0 })
     encode-wrote count e = ap (λ (z : Encoded). packed (encodedReply z)) (sym e ∙ chosen-answer)
 
     pub encode-refused : (q : Refusal) → x ≡ Encoded.Refused q → (r : Packed) → r ≡ packed (refusalReply q) → Told r
@@ -61,11 +61,11 @@ module _ (n fold : ℕ) (text memory : List ℕ) (f : Bool) (c : f ≡ chosen fo
 -- ---- states
 
 module _ (e : Encoder) where
-  pub first-none : e .«has_bad» ≡ 0 → First.Nothing ≡ inside e .first
+  pub first-none : e .«has_bad» ≡ 0 → First.Nothing ≡ inside e .bad .first
   unfolding inside
   first-none h = sym (rw (eq-eqb (e .«has_bad») 0 h))
 
-  pub first-some : (e .«has_bad» ≡ 0 → ⊥) → First.At (e .«bad_position») (e .«bad_byte») ≡ inside e .first
+  pub first-some : (e .«has_bad» ≡ 0 → ⊥) → First.At (e .«bad_position») (e .«bad_byte») ≡ inside e .bad .first
   unfolding inside
   first-some h = sym (rw (ne-eqb (e .«has_bad») 0 h))
 
@@ -116,27 +116,39 @@ module _ (e : Encoder) where
 
     -- the state, from its alphabet, its first non-member and its choice
     abbrev standing : AlphabetType → First → Bool → State
-    standing x y z = State.Fits (record { alphabet = x; seen = e .seen; bits = e .«pending_bits»; pending = e .pending; first = y; fold = z })
+    standing x y z =
+        State.Fits
+        (record { alphabet = x; seen = e .seen; bits = e .«pending_bits»; pending = e .pending; bad = record { first = y; count = e .«bad_count» }; fold = z })
 
-    pub state-fine : fitting e ≡ true → e .«pending_bits» ≤ 255 → e .pending ≤ 255 → (first : First) → first ≡ inside e .first → (fold : Bool) → fold ≡ chosen (e .fold)
-        → standing k first fold ≡ stateOf e
+    pub state-fine : fitting e ≡ true → e .«pending_bits» ≤ 255 → e .pending ≤ 255 → (first : First) → first ≡ inside e .bad .first
+        → (fold : Bool) → fold ≡ chosen (e .fold) → standing k first fold ≡ stateOf e
     unfolding stateOf inside
     state-fine f h l first q fold c =
         ap₂ (λ x y. standing x y fold) (sym (named-kind (e .alphabet) k n .1)) q
-        ∙ ap (standing (kindOf (e .alphabet)) (inside e .first)) c
+        ∙ ap (standing (kindOf (e .alphabet)) (inside e .bad .first)) c
         ∙ sym (rw (named-kind (e .alphabet) k n .0, f, le-leb (e .«pending_bits») 255 h, le-leb (e .pending) 255 l))
 
 -- the numbers of a state, from those of its alphabet, of its first non-member and of its choice
 module _ (s : SequenceEncoder) (m : ℕ) (a : m ≡ numberOf (s .alphabet)) (n : ℕ) (c : n ≡ foldNumber (s .fold)) where
   abbrev made : ℕ → ℕ → ℕ → ℕ → ℕ → Encoder
   made x y has position byte =
-      record { alphabet = x; seen = s .seen; «pending_bits» = s .bits; pending = s .pending; «has_bad» = has; «bad_position» = position; «bad_byte» = byte; fold = y }
+      record {
+        alphabet = x;
+        seen = s .seen;
+        «pending_bits» = s .bits;
+        pending = s .pending;
+        «has_bad» = has;
+        «bad_position» = position;
+        «bad_byte» = byte;
+        fold = y;
+        «bad_count» = s .bad .count;
+      }
 
-  pub outside-none : s .first ≡ First.Nothing → made m n 0 0 0 ≡ outside s
+  pub outside-none : s .bad .first ≡ First.Nothing → made m n 0 0 0 ≡ outside s
   unfolding outside
   outside-none e = ap₂ (λ x y. made x y 0 0 0) a c ∙ sym (ap (outsideWith s) e)
 
-  pub outside-some : (position byte : ℕ) → s .first ≡ First.At position byte → made m n 1 position byte ≡ outside s
+  pub outside-some : (position byte : ℕ) → s .bad .first ≡ First.At position byte → made m n 1 position byte ≡ outside s
   unfolding outside
   outside-some position byte e = ap₂ (λ x y. made x y 1 position byte) a c ∙ sym (ap (outsideWith s) e)
 
@@ -145,10 +157,11 @@ abbrev pub ByteIn : First → Type 0
 ByteIn First.Nothing = Unit {0}
 ByteIn (First.At position byte) = byte ≤ 255
 
--- these numbers stand for that state, so that its choice stays from call to call
+-- these numbers stand for that state, so that its count of non-members and its choice stay from call to call
 module _ (s : SequenceEncoder) (h : s .bits ≤ 255) (l : s .pending ≤ 255) where
   abbrev seeing : First → SequenceEncoder
-  seeing first = record { alphabet = s .alphabet; seen = s .seen; bits = s .bits; pending = s .pending; first = first; fold = s .fold }
+  seeing first =
+      record { alphabet = s .alphabet; seen = s .seen; bits = s .bits; pending = s .pending; bad = record { first = first; count = s .bad .count }; fold = s .fold }
 
   again : (first : First) → ByteIn first → stateOf (outside (seeing first)) ≡ State.Fits (seeing first)
   unfolding stateOf inside outside fitting
@@ -158,8 +171,8 @@ module _ (s : SequenceEncoder) (h : s .bits ≤ 255) (l : s .pending ≤ 255) wh
       rw
       (known-number (s .alphabet), kind-number (s .alphabet), le-leb (s .bits) 255 h, le-leb (s .pending) 255 l, fold-fits (s .fold), fold-chosen (s .fold), le-leb byte 255 b)
 
-  pub stands-again : ByteIn (s .first) → stateOf (outside s) ≡ State.Fits s
-  stands-again = again (s .first)
+  pub stands-again : ByteIn (s .bad .first) → stateOf (outside s) ≡ State.Fits s
+  stands-again = again (s .bad .first)
 
 -- ---- calls
 
@@ -213,7 +226,7 @@ module _ (e : Encoder) (memory : List ℕ) where
 
   pub finalize-wrote : (s : SequenceEncoder) → State.Fits s ≡ stateOf e → (x : Finalized) (count : ℕ) → x ≡ Finalized.Wrote count → x ≡ finalizeAt s (length memory)
       → (out : List ℕ) → out ≡ finalizeMemory s memory
-      → (record { refusal = 0; count = count; position = 0; byte = 0 } ≡ packed (finalizeTold e (length memory))) × (out ≡ encoderFinalizeMemory e memory)
+      → (record { refusal = 0; count = count; position = 0; byte = 0; «bad_count» = 0 } ≡ packed (finalizeTold e (length memory))) × (out ≡ encoderFinalizeMemory e memory)
   unfolding finalizeTold encoderFinalizeMemory
   finalize-wrote s q x count p f out w =
       (ap (λ (y : Finalized). packed (finalizedReply y)) (sym p ∙ f) ∙ ap (λ (y : State). packed (finalizeFrom (length memory) y)) q, w ∙ ap (finalizeMemoryFrom memory) q)

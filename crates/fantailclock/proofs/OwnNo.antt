@@ -101,7 +101,7 @@ unfolding firstNo askedOfEnd finalizeAt
 finalize-number s room =
     let tell : Finalized → ℕ = λ x. numberIn (finalizedReply x) in
     asked tell (soundEncoder s) _ _ refl
-    (members tell (s .first) _ _ (λ position byte. refl) (asked tell (leb (bytesFor (s .bits)) room) _ _ refl refl))
+    (members tell (s .bad .first) _ _ (λ position byte. refl) (asked tell (leb (bytesFor (s .bits)) room) _ _ refl refl))
 
 pub range-number : (start end bits : ℕ) → numberIn (rangeReply (rangeAt start end bits)) ≡ firstNo (askedOfRange start end bits)
 unfolding firstNo askedOfRange rangeAt

@@ -63,7 +63,7 @@ askedOfPiece s piece room =
 
 -- 4, 8, 9, of `finalize`
 unfoldable pub askedOfEnd : SequenceEncoder → ℕ → List Asked
-askedOfEnd s room = (1 unless soundEncoder s) ∷ (5 unless clean (s .first)) ∷ (4 unless leb (bytesFor (s .bits)) room) ∷ []
+askedOfEnd s room = (1 unless soundEncoder s) ∷ (5 unless clean (s .bad .first)) ∷ (4 unless leb (bytesFor (s .bits)) room) ∷ []
 
 -- 2, 5, of `byte_range_for_bases`
 unfoldable pub askedOfRange : ℕ → ℕ → ℕ → List Asked

@@ -30,7 +30,7 @@ inside e =
       seen = e .seen;
       bits = e .«pending_bits»;
       pending = e .pending;
-      first = cond (eqb (e .«has_bad») 0) First.Nothing (First.At (e .«bad_position») (e .«bad_byte»));
+      bad = record { first = cond (eqb (e .«has_bad») 0) First.Nothing (First.At (e .«bad_position») (e .«bad_byte»)); count = e .«bad_count» };
       fold = chosen (e .fold);
     }
 
@@ -38,7 +38,7 @@ inside e =
 unfoldable pub fitting : Encoder → Bool
 fitting e = leb (e .fold) 1 && (eqb (e .«has_bad») 0 || (eqb (e .«has_bad») 1 && leb (e .«bad_byte») 255))
 
--- a state as a host's numbers; zeros where there is no first non-member
+-- a state as a host's numbers; position and byte are zeros where there is no first non-member
 abbrev pub outsideWith : SequenceEncoder → First → Encoder
 outsideWith s First.Nothing =
     record {
@@ -50,6 +50,7 @@ outsideWith s First.Nothing =
       «bad_position» = 0;
       «bad_byte» = 0;
       fold = foldNumber (s .fold);
+      «bad_count» = s .bad .count;
     }
 outsideWith s (First.At position byte) =
     record {
@@ -61,16 +62,28 @@ outsideWith s (First.At position byte) =
       «bad_position» = position;
       «bad_byte» = byte;
       fold = foldNumber (s .fold);
+      «bad_count» = s .bad .count;
     }
 
 unfoldable pub outside : SequenceEncoder → Encoder
-outside s = outsideWith s (s .first)
+outside s = outsideWith s (s .bad .first)
 
 -- ---- calls
 
 -- `fc_encoder_new`: a fresh state, or the arguments as they came with zeros beside them
 abbrev pub echoed : ℕ → ℕ → Encoder
-echoed alphabet fold = record { alphabet = alphabet; seen = 0; «pending_bits» = 0; pending = 0; «has_bad» = 0; «bad_position» = 0; «bad_byte» = 0; fold = fold }
+echoed alphabet fold =
+    record {
+      alphabet = alphabet;
+      seen = 0;
+      «pending_bits» = 0;
+      pending = 0;
+      «has_bad» = 0;
+      «bad_position» = 0;
+      «bad_byte» = 0;
+      fold = fold;
+      «bad_count» = 0;
+    }
 
 abbrev pub startedBy : ℕ → ℕ → Start → EncoderStarted
 startedBy alphabet fold (Start.Fresh s) = record { refusal = 0; next = outside s }

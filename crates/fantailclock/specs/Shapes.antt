@@ -24,11 +24,12 @@ range reply = record { refusal = numberIn reply; start = valueIn 0 reply; end = 
 
 -- what a refusal tells beside its number
 abbrev pub details : Reply → Details
-details reply = record { first = detailIn 0 reply; second = detailIn 1 reply }
+details reply = record { first = detailIn 0 reply; second = detailIn 1 reply; third = detailIn 2 reply }
 
--- bytes written, or position and byte of a non-member
+-- bytes written, or position and byte of the first non-member, and how many there are
 abbrev pub packed : Reply → Packed
-packed reply = record { refusal = numberIn reply; count = valueIn 0 reply; position = detailIn 0 reply; byte = detailIn 1 reply }
+packed reply =
+    record { refusal = numberIn reply; count = valueIn 0 reply; position = detailIn 0 reply; byte = detailIn 1 reply; «bad_count» = detailIn 2 reply }
 
 -- the bases outstanding
 abbrev pub ended : Reply → Ended

@@ -12,6 +12,7 @@ use alphabet::AlphabetType;
 use alphabet::Named;
 use alphabet::Refusal;
 use alphabet::kind_of_number;
+use packing::Bad;
 use packing::Encoded;
 use packing::Finalized;
 use packing::First;
@@ -39,6 +40,7 @@ fn refused_by(refusal: Refusal) -> Packed
         count: 0,
         position: details.first,
         byte: details.second,
+        bad_count: details.third,
     }
 }
 
@@ -78,6 +80,7 @@ pub extern "C" fn fc_encode_sequence(
             count: count as u64,
             position: 0,
             byte: 0,
+            bad_count: 0,
         },
         Encoded::Refused(refusal) => refused_by(refusal),
     }
@@ -93,7 +96,9 @@ fn encoder_of(state: SequenceEncoder) -> Encoder
     let pending_bits = state.bits as u64;
     let pending = state.pending as u64;
     let fold = number_of_fold(state.fold);
-    let first = state.first;
+    let bad = state.bad;
+    let bad_count = bad.count as u64;
+    let first = bad.first;
     match first {
         First::Nothing => Encoder {
             alphabet,
@@ -104,6 +109,7 @@ fn encoder_of(state: SequenceEncoder) -> Encoder
             bad_position: 0,
             bad_byte: 0,
             fold,
+            bad_count,
         },
         First::At { position, byte } => Encoder {
             alphabet,
@@ -114,6 +120,7 @@ fn encoder_of(state: SequenceEncoder) -> Encoder
             bad_position: position as u64,
             bad_byte: byte as u64,
             fold,
+            bad_count,
         },
     }
 }
@@ -128,7 +135,7 @@ pub enum State {
 // The first non-member that a state's numbers name.
 fn first_in(state: Encoder) -> First
     requires { ⌜ fitting state ≡ true ⌝ }
-    ensures { λ r. ⌜ r ≡ inside state .first ⌝ }
+    ensures { λ r. ⌜ r ≡ inside state .bad .first ⌝ }
 {
     if state.has_bad == 0 {
         return First::Nothing;
@@ -175,7 +182,10 @@ fn state_of(state: Encoder) -> State
         seen: state.seen as usize,
         bits: state.pending_bits as u8,
         pending: state.pending as u8,
-        first,
+        bad: Bad {
+            first,
+            count: state.bad_count as usize,
+        },
         fold,
     })
 }
@@ -201,6 +211,7 @@ pub extern "C" fn fc_encoder_new(alphabet: u64, fold: u64) -> EncoderStarted
                 bad_position: 0,
                 bad_byte: 0,
                 fold,
+                bad_count: 0,
             },
         },
     }
@@ -247,6 +258,7 @@ pub extern "C" fn fc_encoder_finalize(state: Encoder, out: &mut [u8]) -> Packed
             count: 0,
             position: 0,
             byte: 0,
+            bad_count: 0,
         },
         State::Fits(encoder) => match encoder.finalize(out) {
             Finalized::Wrote(count) => Packed {
@@ -254,6 +266,7 @@ pub extern "C" fn fc_encoder_finalize(state: Encoder, out: &mut [u8]) -> Packed
                 count: count as u64,
                 position: 0,
                 byte: 0,
+                bad_count: 0,
             },
             Finalized::Refused(refusal, _) => refused_by(refusal),
         },

@@ -44,9 +44,10 @@ pub struct Packed {
     pub count: u64,
     pub position: u64,
     pub byte: u64,
+    pub bad_count: u64,
 }
 
-// An encoder's state; `bad_position` and `bad_byte` are of no account where `has_bad` is 0, and `fold` is 0 or 1.
+// An encoder's state; `bad_position` and `bad_byte` are of no account where `has_bad` is 0, `bad_count` is 0 there, and `fold` is 0 or 1.
 #[repr(C)]
 pub struct Encoder {
     pub alphabet: u64,
@@ -57,6 +58,7 @@ pub struct Encoder {
     pub bad_position: u64,
     pub bad_byte: u64,
     pub fold: u64,
+    pub bad_count: u64,
 }
 
 #[repr(C)]
@@ -129,10 +131,12 @@ pub fn number_of_fold(fold: bool) -> u64
     0
 }
 
-// What a refusal tells beside its number: a non-member's position and byte, or the bases outstanding; zeros where it tells nothing.
+// What a refusal tells beside its number: the first non-member's position and byte and how many there are, or the bases outstanding; zeros where it tells
+// nothing.
 pub struct Details {
     pub first: u64,
     pub second: u64,
+    pub third: u64,
 }
 
 pub fn details_of(refusal: Refusal) -> Details
@@ -141,20 +145,27 @@ pub fn details_of(refusal: Refusal) -> Details
     let none = Details {
         first: 0,
         second: 0,
+        third: 0,
     };
     match refusal {
         Refusal::Unsound => none,
         Refusal::TooFar => none,
         Refusal::Uncovered => none,
         Refusal::ShortMemory => none,
-        Refusal::NonMember { position, byte } => Details {
+        Refusal::NonMember {
+            position,
+            byte,
+            count,
+        } => Details {
             first: position as u64,
             second: byte as u64,
+            third: count as u64,
         },
         Refusal::BadSkip => none,
         Refusal::Outstanding(bases) => Details {
             first: bases,
             second: 0,
+            third: 0,
         },
         Refusal::NoAlphabet => none,
         Refusal::TooWide => none,

@@ -1,6 +1,6 @@
 -- What the public calls answer, case by case: each refusal, and the memory.
 use mathlib.Core.Path.{_≡_, refl, sym, ap, ap₂, _∙_}
-use mathlib.Core.Bool.{Bool, true, false, _&&_}
+use mathlib.Core.Bool.{Bool, true, false, not, _&&_}
 use mathlib.Core.List.{List, [], _∷_}
 use Prim.Native.Nat.{ℕ, _+_, _-_, _*_, _/_, _%_, _^_, _≤_, _<_}
 use native.Mathlib.Nat.{mul-le-mul, mod-lt, zero-mul}
@@ -23,14 +23,15 @@ use Rattle.alphabet.specs.Names.{namedAt}
 use Rattle.alphabet.proofs.Laws.{lawful}
 use Rattle.alphabet.proofs.Calls.{named-kind, named-refused}
 use Rattle.packing.specs.declared.first.First.{First}
+use Rattle.packing.specs.declared.bad.Bad.{Bad}
 use Rattle.packing.specs.declared.encoder.SequenceEncoder.{SequenceEncoder}
 use Rattle.packing.specs.declared.encoder.EncoderStarted.{EncoderStarted}
 use Rattle.packing.specs.declared.encoder.Updated.{Updated}
 use Rattle.packing.specs.declared.encoder.Finalized.{Finalized}
 use Rattle.packing.specs.declared.sequence.Encoded.{Encoded}
 use Rattle.packing.specs.declared.range.Range.{Range}
-use Rattle.packing.specs.Encode.{digitOf, digitsOf, packing, firstFrom, orFirst, unlessBad}
-use Rattle.packing.specs.Encode.{encodeBy, encodeAt, encodeWrites, encodeMemory, packsBy, freshEncoder, soundFirst, soundEncoder, startEncoderAt}
+use Rattle.packing.specs.Encode.{digitOf, digitsOf, packing, firstFrom, badIn, badFrom, bothBad, unlessBad}
+use Rattle.packing.specs.Encode.{encodeBy, encodeAt, encodeWrites, encodeMemory, packsBy, freshEncoder, soundFirst, soundCount, soundBad, soundEncoder, startEncoderAt}
 use Rattle.packing.specs.Encode.{pieceBits, pieceBitCount, updated, updateAt, updateWrites, updateMemory}
 use Rattle.packing.specs.Encode.{finalizeRest, finalizeAt, finalizeWrites, finalizeMemory}
 use Rattle.packing.specs.Range.{rangeAt}
@@ -82,6 +83,7 @@ pub record Sound (s : SequenceEncoder) : Type 0 where
   pub bounded : s .seen ≤ limit
   pub left : s .bits ≡ s .seen * packsBy s .width % 8
   pub small : s .pending < 2 ^ s .bits
+  pub non-members : soundBad (packsBy s) (s .seen) (s .bad) ≡ true
 
 module _ (s : SequenceEncoder) where
   pub sound-far : limit < s .seen → false ≡ soundEncoder s
@@ -97,7 +99,7 @@ module _ (s : SequenceEncoder) where
   sound-value h e l = sym (rw (le-leb (s .seen) limit h, eq-eqb (s .bits) (s .seen * packsBy s .width % 8) e, le-ltb (s .pending) (2 ^ s .bits) l))
 
   pub sound-rest : s .seen ≤ limit → s .bits ≡ s .seen * packsBy s .width % 8 → s .pending < 2 ^ s .bits
-      → (r : Bool) → r ≡ soundFirst (packsBy s) (s .seen) (s .first) → r ≡ soundEncoder s
+      → (r : Bool) → r ≡ soundBad (packsBy s) (s .seen) (s .bad) → r ≡ soundEncoder s
   unfolding soundEncoder
   sound-rest h e l r q =
       q ∙ sym (rw (le-leb (s .seen) limit h, eq-eqb (s .bits) (s .seen * packsBy s .width % 8) e, lt-ltb (s .pending) (2 ^ s .bits) l))
@@ -107,13 +109,14 @@ module _ (s : SequenceEncoder) where
   sound e =
       let left : Bool = eqb (s .bits) (s .seen * packsBy s .width % 8) in
       let small : Bool = ltb (s .pending) (2 ^ s .bits) in
-      let b3 = both-true (inBounds (s .seen) && left && small) (soundFirst (packsBy s) (s .seen) (s .first)) e in
+      let b3 = both-true (inBounds (s .seen) && left && small) (soundBad (packsBy s) (s .seen) (s .bad)) e in
       let b2 = both-true (inBounds (s .seen) && left) small (b3 .0) in
       let b1 = both-true (inBounds (s .seen)) left (b2 .0) in
       record {
         bounded = leb-true (s .seen) limit (b1 .0);
         left = eqb-true (s .bits) (s .seen * packsBy s .width % 8) (b1 .1);
         small = ltb-true (s .pending) (2 ^ s .bits) (b2 .1);
+        non-members = b3 .1;
       }
 
   -- the pending bits are fewer than a byte
@@ -192,12 +195,12 @@ module _ (s : SequenceEncoder) (piece : List ℕ) where
       }
 
   -- the next state, field by field
-  pub next-state : (bits pending : ℕ) (first : First) → bits ≡ (s .bits + length piece * packsBy s .width) % 8
+  pub next-state : (bits pending : ℕ) (bad : Bad) → bits ≡ (s .bits + length piece * packsBy s .width) % 8
       → pending ≡ leftOver (packsBy s .width) (s .bits) (s .pending) (digitsOf (packsBy s) piece)
-      → first ≡ orFirst (s .first) (firstFrom (packsBy s) (s .seen) piece)
-      → record { alphabet = s .alphabet; seen = s .seen + length piece; bits = bits; pending = pending; first = first; fold = s .fold } ≡ updated s piece
+      → bad ≡ bothBad (s .bad) (badFrom (packsBy s) (s .seen) piece)
+      → record { alphabet = s .alphabet; seen = s .seen + length piece; bits = bits; pending = pending; bad = bad; fold = s .fold } ≡ updated s piece
   unfolding updated pieceBits pieceBitCount
-  next-state bits pending first e f g =
+  next-state bits pending bad e f g =
       let A : Coding = packsBy s in
       let hand : ℕ → ℕ = pieceBits s piece in
       let same : length (digitsOf A piece) ≡ length piece = length-map piece (digitOf A) in
@@ -230,20 +233,20 @@ module _ (s : SequenceEncoder) where
     finalize-unsound e = sym (rw e)
 
     -- past the first question
-    after-sound : soundEncoder s ≡ true → (f : First) → s .first ≡ f
-        → finalizeAt s room ≡ unlessBad f (λ position byte. Finalized.Refused (by 5 (position ∷ byte ∷ [])) s) (finalizeRest s room)
+    after-sound : soundEncoder s ≡ true → (f : First) → s .bad .first ≡ f
+        → finalizeAt s room ≡ unlessBad f (λ position byte. Finalized.Refused (by 5 (position ∷ byte ∷ s .bad .count ∷ [])) s) (finalizeRest s room)
     unfolding finalizeAt
     after-sound e f q =
-        rw e (ap (λ (x : First). unlessBad x (λ position byte. Finalized.Refused (by 5 (position ∷ byte ∷ [])) s) (finalizeRest s room)) q)
+        rw e (ap (λ (x : First). unlessBad x (λ position byte. Finalized.Refused (by 5 (position ∷ byte ∷ s .bad .count ∷ [])) s) (finalizeRest s room)) q)
 
-    pub finalize-bad : soundEncoder s ≡ true → (position byte : ℕ) → s .first ≡ First.At position byte
-        → Finalized.Refused (by 5 (position ∷ byte ∷ [])) s ≡ finalizeAt s room
+    pub finalize-bad : soundEncoder s ≡ true → (position byte : ℕ) → s .bad .first ≡ First.At position byte
+        → Finalized.Refused (by 5 (position ∷ byte ∷ s .bad .count ∷ [])) s ≡ finalizeAt s room
     finalize-bad e position byte q = sym (after-sound e (First.At position byte) q)
 
-    pub finalize-short : soundEncoder s ≡ true → s .first ≡ First.Nothing → room < bytesFor (s .bits) → Finalized.Refused (by 4 []) s ≡ finalizeAt s room
+    pub finalize-short : soundEncoder s ≡ true → s .bad .first ≡ First.Nothing → room < bytesFor (s .bits) → Finalized.Refused (by 4 []) s ≡ finalizeAt s room
     finalize-short e q l = sym (after-sound e First.Nothing q ∙ rw (lt-leb (bytesFor (s .bits)) room l))
 
-    pub finalize-fine : soundEncoder s ≡ true → s .first ≡ First.Nothing → bytesFor (s .bits) ≤ room → Finalized.Wrote (bytesFor (s .bits)) ≡ finalizeAt s room
+    pub finalize-fine : soundEncoder s ≡ true → s .bad .first ≡ First.Nothing → bytesFor (s .bits) ≤ room → Finalized.Wrote (bytesFor (s .bits)) ≡ finalizeAt s room
     finalize-fine e q l = sym (after-sound e First.Nothing q ∙ rw (le-leb (bytesFor (s .bits)) room l))
 
     -- an accepted call: what was asked, and the count
@@ -256,17 +259,18 @@ module _ (s : SequenceEncoder) where
     unfolding finalizeAt
     finalize-accepted count e =
         let y₁ = asked-yes (soundEncoder s) (no (by 1 [])) e in
-        let y₂ = asked-yes (leb (bytesFor (s .bits)) room) (no (by 4 [])) (member (s .first) (y₁ .1)) in
+        let y₂ = asked-yes (leb (bytesFor (s .bits)) room) (no (by 4 [])) (member (s .bad .first) (y₁ .1)) in
         let wrote = y₂ .1 in
         record { is-sound = y₁ .0; fits = leb-true (bytesFor (s .bits)) room (y₂ .0); counted = cc }
       where
         no : (q : Refusal) → Finalized.Refused q s ≡ Finalized.Wrote count → ⊥
         no q z = let o : _≡_ {A = ℕ} 0 1 = cc in omega arith
 
-        member : (f : First) → unlessBad f (λ position byte. Finalized.Refused (by 5 (position ∷ byte ∷ [])) s) (finalizeRest s room) ≡ Finalized.Wrote count
+        member : (f : First) →
+            unlessBad f (λ position byte. Finalized.Refused (by 5 (position ∷ byte ∷ s .bad .count ∷ [])) s) (finalizeRest s room) ≡ Finalized.Wrote count
             → finalizeRest s room ≡ Finalized.Wrote count
         member First.Nothing h = h
-        member (First.At position byte) h = absurd (no (by 5 (position ∷ byte ∷ [])) h)
+        member (First.At position byte) h = absurd (no (by 5 (position ∷ byte ∷ s .bad .count ∷ [])) h)
 
   module _ (memory : List ℕ) where
     pub finalize-kept : (q : Refusal) (next : SequenceEncoder) → finalizeAt s (length memory) ≡ Finalized.Refused q next → memory ≡ finalizeMemory s memory
@@ -325,7 +329,8 @@ module _ (A : Coding) (text : List ℕ) (room : ℕ) where
   encode-short h l = sym (rw (le-leb (length text) limit h, lt-leb due room l))
 
   pub encode-first : length text ≤ limit → bytesFor (length text * A .width) ≤ room → (f : First) → firstFrom A 0 text ≡ f
-      → unlessBad f (λ position byte. Encoded.Refused (by 5 (position ∷ byte ∷ []))) (Encoded.Wrote (bytesFor (length text * A .width))) ≡ encodeBy A text room
+      → unlessBad f (λ position byte. Encoded.Refused (by 5 (position ∷ byte ∷ badIn A text ∷ []))) (Encoded.Wrote (bytesFor (length text * A .width)))
+      ≡ encodeBy A text room
   encode-first h l f e = sym (rw (le-leb (length text) limit h, le-leb due room l, e))
 
   -- an accepted text: what was asked
@@ -363,11 +368,34 @@ module _ (n : ℕ) (fold : Bool) (text memory : List ℕ) where
     encode-wrote count e =
         ap (λ (x : AlphabetType). front (packing (codingBy fold x) text) memory) (sym (named-kind n k named .1)) ∙ sym (after-answer (Encoded.Wrote count) e)
 
--- ---- a first non-member
+-- ---- question 4 of the non-members: none, or a first one
 
-pub sound-at-member : (A : Coding) (seen : ℕ) (first : First) (position byte : ℕ) → first ≡ First.At position byte → A .member byte ≡ true → false ≡ soundFirst A seen first
-sound-at-member A seen first position byte e m = sym (ap (soundFirst A seen) e ∙ rw m)
+module _ (A : Coding) (seen : ℕ) (bad : Bad) where
+  pub sound-none : bad .first ≡ First.Nothing → eqb (bad .count) 0 ≡ soundBad A seen bad
+  sound-none e = sym (ap (λ (f : First). soundFirst A seen f && soundCount seen f (bad .count)) e)
 
-pub sound-at-seen : (A : Coding) (seen : ℕ) (first : First) (position byte : ℕ) → first ≡ First.At position byte → A .member byte ≡ false
-    → ltb position seen ≡ soundFirst A seen first
-sound-at-seen A seen first position byte e m = sym (ap (soundFirst A seen) e ∙ rw m)
+  module _ (position byte : ℕ) (at : bad .first ≡ First.At position byte) where
+    pub sound-at-member : A .member byte ≡ true → false ≡ soundBad A seen bad
+    sound-at-member m = sym (ap (λ (f : First). soundFirst A seen f && soundCount seen f (bad .count)) at ∙ rw m)
+
+    pub sound-at-unseen : A .member byte ≡ false → seen ≤ position → false ≡ soundBad A seen bad
+    sound-at-unseen m h = sym (ap (λ (f : First). soundFirst A seen f && soundCount seen f (bad .count)) at ∙ rw (m, le-ltb position seen h))
+
+    pub sound-at-count : A .member byte ≡ false → position < seen → ltb 0 (bad .count) && leb (bad .count) (seen - position) ≡ soundBad A seen bad
+    sound-at-count m h = sym (ap (λ (f : First). soundFirst A seen f && soundCount seen f (bad .count)) at ∙ rw (m, lt-ltb position seen h))
+
+    pub sound-at-zero : A .member byte ≡ false → position < seen → bad .count ≡ 0 → false ≡ soundBad A seen bad
+    sound-at-zero m h z = sym (rw (le-ltb 0 (bad .count) (omega arith))) ∙ sound-at-count m h
+
+    pub sound-at-some : A .member byte ≡ false → position < seen → (bad .count ≡ 0 → ⊥) → leb (bad .count) (seen - position) ≡ soundBad A seen bad
+    sound-at-some m h z = sym (rw (lt-ltb 0 (bad .count) (omega arith))) ∙ sound-at-count m h
+
+  -- no more of them than symbols
+  pub few-bad : soundBad A seen bad ≡ true → bad .count ≤ seen
+  few-bad = go (bad .first)
+    where
+      go : (f : First) → soundFirst A seen f && soundCount seen f (bad .count) ≡ true → bad .count ≤ seen
+      go First.Nothing e = let z = eqb-true (bad .count) 0 e in omega arith
+      go (First.At position byte) e =
+          let b = both-true (not (A .member byte) && ltb position seen) (ltb 0 (bad .count) && leb (bad .count) (seen - position)) e in
+          omega (arith, leb-true (bad .count) (seen - position) (both-true (ltb 0 (bad .count)) (leb (bad .count) (seen - position)) (b .1) .1))

@@ -20,7 +20,7 @@ pub record AsBefore : Type 0 where
   -- `new`
   pub starts : (n : ℕ) → startEncoderAt n false ≡ (
       ask known n else EncoderStarted.Refused (by 8 []) then
-      EncoderStarted.Fresh (record { alphabet = kindOf n; seen = 0; bits = 0; pending = 0; first = First.Nothing; fold = false }))
+      EncoderStarted.Fresh (record { alphabet = kindOf n; seen = 0; bits = 0; pending = 0; bad = record { first = First.Nothing; count = 0 }; fold = false }))
   -- `update` and `finalize`: all that they know of the choice is the coding that a state packs by
   pub packs : (s : SequenceEncoder) → s .fold ≡ false → packsBy s ≡ coding (s .alphabet)
 

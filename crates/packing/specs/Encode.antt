@@ -1,11 +1,13 @@
--- Packing texts. States document 01, "Middle: packing", questions 1, 4, 5, 8, 9 and 10 for `encode_sequence`, `new`, `update` and `finalize`, and request A1 for
--- them: the choice to fold is in the coding that a text is packed by, so that a text is looked at as it came, and a refusal 5 has the byte received.
+-- Packing texts. States document 01, "Middle: packing", questions 1, 4, 5, 8, 9 and 10 for `encode_sequence`, `new`, `update` and `finalize`, and for them request
+-- A1: the choice to fold is in the coding that a text is packed by, so that a text is looked at as it came, and a refusal 5 has the byte received; and request A5:
+-- non-members are counted, and a refusal 5 tells how many there are.
 -- Each call has its answer, from what it is given and the length `room` of its output memory, and the memory afterwards.
 use Prim.Native.Nat.{ℕ, suc, _+_, _-_, _*_, _/_, _%_, _^_}
 use mathlib.Core.Bool.{Bool, true, cond, not, _&&_}
 use mathlib.Core.List.{List, [], _∷_, map}
 use lib.Dec.{leb, ltb, eqb}
 use lib.ListN.{length}
+use Rattle.bits.specs.Counts.{howMany}
 use Rattle.bits.specs.Streams.{word, cut}
 use Rattle.bits.specs.Packing.{bytesFor, pack, atHand}
 use Rattle.bits.specs.Memory.{front}
@@ -14,6 +16,7 @@ use Rattle.alphabet.specs.Questions.{ask_else_then_, by, inBounds}
 use Rattle.alphabet.specs.Symbols.{Coding, codingBy}
 use Rattle.alphabet.specs.Names.{known, kindOf, numberedBy}
 use Rattle.packing.specs.declared.first.First.{First}
+use Rattle.packing.specs.declared.bad.Bad.{Bad}
 use Rattle.packing.specs.declared.encoder.SequenceEncoder.{SequenceEncoder}
 use Rattle.packing.specs.declared.encoder.EncoderStarted.{EncoderStarted}
 use Rattle.packing.specs.declared.encoder.Updated.{Updated}
@@ -33,15 +36,32 @@ digitsOf A text = map (digitOf A) text
 unfoldable pub packing : Coding → List ℕ → List ℕ
 packing A text = pack (A .width) (digitsOf A text)
 
+-- the members before a text's first non-member: its place, and the text's length where there is none
+unfoldable pub membersAhead : Coding → List ℕ → ℕ
+membersAhead A [] = 0
+membersAhead A (x ∷ xs) = cond (A .member x) (suc (membersAhead A xs)) 0
+
 -- the first non-member of a text whose first byte has position i
 unfoldable pub firstFrom : Coding → ℕ → List ℕ → First
 firstFrom A i [] = First.Nothing
 firstFrom A i (x ∷ xs) = cond (A .member x) (firstFrom A (suc i) xs) (First.At i x)
 
+-- how many of its bytes are no members
+abbrev pub badIn : Coding → List ℕ → ℕ
+badIn A text = howMany (λ v. not (A .member v)) text
+
+-- both
+abbrev pub badFrom : Coding → ℕ → List ℕ → Bad
+badFrom A i text = record { first = firstFrom A i text; count = badIn A text }
+
 -- a first non-member that is known stays
 abbrev pub orFirst : First → First → First
 orFirst First.Nothing later = later
 orFirst (First.At position byte) later = First.At position byte
+
+-- the non-members of a text and of one behind it: of the first what is known stays, and the counts add
+abbrev pub bothBad : Bad → Bad → Bad
+bothBad before later = record { first = orFirst (before .first) (later .first); count = before .count + later .count }
 
 -- the question whether every byte was a member: what is answered for the first that was none, and what follows where there is none
 abbrev pub unlessBad : {A : Type 0} → First → (ℕ → ℕ → A) → A → A
@@ -50,12 +70,13 @@ unlessBad (First.At position byte) bad rest = bad position byte
 
 -- ---- `encode_sequence`
 
--- asked of a text by its coding: length, memory for the packing, every byte a member
+-- asked of a text by its coding: length, memory for the packing, every byte a member; where one is none, all that are none are counted
 abbrev pub encodeBy : Coding → List ℕ → ℕ → Encoded
 encodeBy A text room =
     ask inBounds (length text) else Encoded.Refused (by 2 []) then
     ask leb (bytesFor (length text * A .width)) room else Encoded.Refused (by 4 []) then
-    unlessBad (firstFrom A 0 text) (λ position byte. Encoded.Refused (by 5 (position ∷ byte ∷ []))) (Encoded.Wrote (bytesFor (length text * A .width)))
+    unlessBad (firstFrom A 0 text) (λ position byte. Encoded.Refused (by 5 (position ∷ byte ∷ badIn A text ∷ [])))
+    (Encoded.Wrote (bytesFor (length text * A .width)))
 
 -- and before it: alphabet number
 unfoldable pub encodeAt : ℕ → Bool → List ℕ → ℕ → Encoded
@@ -78,20 +99,28 @@ packsBy s = codingBy (s .fold) (s .alphabet)
 
 -- an encoder that has seen nothing
 unfoldable pub freshEncoder : Bool → AlphabetType → SequenceEncoder
-freshEncoder fold k = record { alphabet = k; seen = 0; bits = 0; pending = 0; first = First.Nothing; fold = fold }
+freshEncoder fold k = record { alphabet = k; seen = 0; bits = 0; pending = 0; bad = record { first = First.Nothing; count = 0 }; fold = fold }
 
 -- a first non-member is no member, and was seen
 abbrev pub soundFirst : Coding → ℕ → First → Bool
 soundFirst A seen First.Nothing = true
 soundFirst A seen (First.At position byte) = not (A .member byte) && ltb position seen
 
--- question 4: symbols seen, pending bit count, pending value, first non-member. (Either choice is sound.)
+-- the count of non-members is zero exactly when there is no first one, and at most the symbols seen from the first one's position on
+abbrev pub soundCount : ℕ → First → ℕ → Bool
+soundCount seen First.Nothing count = eqb count 0
+soundCount seen (First.At position byte) count = ltb 0 count && leb count (seen - position)
+
+abbrev pub soundBad : Coding → ℕ → Bad → Bool
+soundBad A seen bad = soundFirst A seen (bad .first) && soundCount seen (bad .first) (bad .count)
+
+-- question 4: symbols seen, pending bit count, pending value, first non-member and their count. (Either choice is sound.)
 unfoldable pub soundEncoder : SequenceEncoder → Bool
 soundEncoder s =
     inBounds (s .seen)
     && eqb (s .bits) (s .seen * packsBy s .width % 8)
     && ltb (s .pending) (2 ^ s .bits)
-    && soundFirst (packsBy s) (s .seen) (s .first)
+    && soundBad (packsBy s) (s .seen) (s .bad)
 
 -- ---- `new`
 
@@ -111,7 +140,7 @@ pieceBits s piece = atHand (s .bits) (s .pending) (packsBy s .width) (digitsOf (
 unfoldable pub pieceBitCount : SequenceEncoder → ℕ → ℕ
 pieceBitCount s len = s .bits + len * packsBy s .width
 
--- the state after an accepted piece: the bits past the last whole byte pend, and the choice stays
+-- the state after an accepted piece: the bits past the last whole byte pend, its non-members join those before, and the choice stays
 unfoldable pub updated : SequenceEncoder → List ℕ → SequenceEncoder
 updated s piece =
     record {
@@ -119,7 +148,7 @@ updated s piece =
       seen = s .seen + length piece;
       bits = pieceBitCount s (length piece) % 8;
       pending = word (pieceBits s piece) (pieceBitCount s (length piece) / 8 * 8) (pieceBitCount s (length piece) % 8);
-      first = orFirst (s .first) (firstFrom (packsBy s) (s .seen) piece);
+      bad = bothBad (s .bad) (badFrom (packsBy s) (s .seen) piece);
       fold = s .fold;
     }
 
@@ -150,7 +179,7 @@ finalizeRest s room = ask leb (bytesFor (s .bits)) room else Finalized.Refused (
 unfoldable pub finalizeAt : SequenceEncoder → ℕ → Finalized
 finalizeAt s room =
     ask soundEncoder s else Finalized.Refused (by 1 []) s then
-    unlessBad (s .first) (λ position byte. Finalized.Refused (by 5 (position ∷ byte ∷ [])) s) (finalizeRest s room)
+    unlessBad (s .bad .first) (λ position byte. Finalized.Refused (by 5 (position ∷ byte ∷ s .bad .count ∷ [])) s) (finalizeRest s room)
 
 -- the byte that an answer writes: the bits that pend, then zeros
 unfoldable pub finalizeWrites : SequenceEncoder → Finalized → List ℕ

@@ -4,6 +4,7 @@ use Prim.Native.Nat.{ℕ, _+_, _*_, _/_, _%_, _^_, _≤_, _<_}
 use mathlib.Core.Path.{_≡_}
 use mathlib.Core.Bool.{Bool, true}
 use mathlib.Core.List.{List, map}
+use lib.Dec.{leb}
 use lib.ListN.{length}
 use Rattle.bits.specs.Tables.{at}
 use Rattle.bits.specs.Streams.{word, cut}
@@ -58,6 +59,10 @@ pub record Searched (table text : List ℕ) (n r : ℕ) : Type 0 where
 pub record Overlaid (table text : List ℕ) (i n r : ℕ) : Type 0 where
   pub told : (j : ℕ) → j < n → at table (at text (i + j)) ≡ 0xff → r ≡ 0xff
 
--- no byte that stands for a base has the entry FF
+-- a byte's entry in a table has the top bit, as FF does and no code of a packed alphabet
+abbrev pub topBit : List ℕ → ℕ → Bool
+topBit table x = leb 128 (at table x)
+
+-- no byte that stands for a base has an entry with it
 pub record Usual (fold : Bool) (table : List ℕ) : Type 0 where
-  pub entry : (x : ℕ) → base (canon fold x) ≡ true → at table x ≡ 0xff → ⊥
+  pub entry : (x : ℕ) → base (canon fold x) ≡ true → at table x < 128

@@ -1,6 +1,8 @@
 // A text packed piece by piece.
+use crate::bad::Bad;
+use crate::bad::bad_from;
+use crate::bad::both_bad;
 use crate::first::First;
-use crate::first::first_of;
 use crate::run::left_over;
 use crate::run::pack;
 use crate::table::lay_codes;
@@ -21,17 +23,17 @@ ghost use Prim.Native.Nat.{_+_, _≤_};
 ghost use lib.ListN.{length};
 ghost use Rattle.bits.specs.Tables.{tabulate};
 ghost use Rattle.alphabet.specs.Questions.{limit};
-ghost use Rattle.packing.specs.Encode.{packsBy, soundFirst, soundEncoder, startEncoderAt, updated, updateAt, updateMemory, finalizeAt, finalizeMemory};
+ghost use Rattle.packing.specs.Encode.{packsBy, soundBad, soundEncoder, startEncoderAt, updated, updateAt, updateMemory, finalizeAt, finalizeMemory};
 ghost use Rattle.alphabet.specs.Symbols.{codingBy};
 
-// The state between pieces: `seen` symbols so far, of which `bits` bits, of value `pending`, fill no byte yet. Whether lowercase letters fold is chosen once,
-// for the whole text.
+// The state between pieces: `seen` symbols so far, of which `bits` bits, of value `pending`, fill no byte yet; the non-members among them. Whether lowercase
+// letters fold is chosen once, for the whole text.
 pub struct SequenceEncoder {
     pub alphabet: AlphabetType,
     pub seen: usize,
     pub bits: u8,
     pub pending: u8,
-    pub first: First,
+    pub bad: Bad,
     pub fold: bool,
 }
 
@@ -53,17 +55,26 @@ pub enum Finalized {
     Refused(Refusal, SequenceEncoder),
 }
 
-// Whether a first non-member is none of the alphabet, by the choice to fold, and was seen.
-fn is_sound_first(kind: AlphabetType, fold: bool, seen: usize, first: First) -> bool
-    ensures { λ r. ⌜ r ≡ soundFirst (codingBy fold kind) seen first ⌝ }
+// Whether a first non-member is none of the alphabet, by the choice to fold, and was seen; and whether there are as many as the symbols seen allow: none without
+// a first one, and with it one or more, which stand from its position on.
+fn is_sound_bad(kind: AlphabetType, fold: bool, seen: usize, bad: Bad) -> bool
+    ensures { λ r. ⌜ r ≡ soundBad (codingBy fold kind) seen bad ⌝ }
 {
+    let first = bad.first;
+    let count = bad.count;
     match first {
-        First::Nothing => true,
+        First::Nothing => count == 0,
         First::At { position, byte } => {
             if takes(kind, fold, byte) {
                 return false;
             }
-            position < seen
+            if seen <= position {
+                return false;
+            }
+            if count == 0 {
+                return false;
+            }
+            count <= seen - position
         }
     }
 }
@@ -79,7 +90,10 @@ impl SequenceEncoder {
                 seen: 0,
                 bits: 0,
                 pending: 0,
-                first: First::Nothing,
+                bad: Bad {
+                    first: First::Nothing,
+                    count: 0,
+                },
                 fold,
             }),
             Named::Refused(refusal) => EncoderStarted::Refused(refusal),
@@ -93,7 +107,7 @@ impl SequenceEncoder {
         let kind = self.alphabet;
         let seen = self.seen;
         let bits = self.bits as usize;
-        let first = self.first;
+        let bad = self.bad;
         if LIMIT < seen {
             return false;
         }
@@ -103,11 +117,11 @@ impl SequenceEncoder {
         if power(bits) <= self.pending as u64 {
             return false;
         }
-        is_sound_first(kind, self.fold, seen, first)
+        is_sound_bad(kind, self.fold, seen, bad)
     }
 
-    // The state after an accepted piece. A non-member counts as a symbol of b ones, and packing goes on; the first one's position, over all accepted pieces, is
-    // kept for `finalize`.
+    // The state after an accepted piece. A non-member counts as a symbol of b ones, and packing goes on; the first one's position and how many there are, over all
+    // accepted pieces, are kept for `finalize`.
     fn next(self, table: &[u8; 256], piece: &[u8]) -> SequenceEncoder
         requires { ⌜ (now table ≡ tabulate 256 (packsBy self .code)) × ((soundEncoder self ≡ true) × (self .seen + length (now piece) ≤ limit)) ⌝ }
         ensures { λ r. ⌜ r ≡ updated self (now (piece .entry)) ⌝ }
@@ -120,14 +134,14 @@ impl SequenceEncoder {
         let left = ((bits + len * b) % 8) as u8;
         let seen = self.seen;
         let after = seen + len;
-        let before = self.first;
-        let first = first_of(before, kind, self.fold, table, seen, piece);
+        let before = self.bad;
+        let bad = both_bad(before, bad_from(kind, self.fold, table, seen, piece));
         SequenceEncoder {
             alphabet: kind,
             seen: after,
             bits: left,
             pending,
-            first,
+            bad,
             fold: self.fold,
         }
     }
@@ -178,15 +192,24 @@ impl SequenceEncoder {
         if !self.is_sound() {
             return Finalized::Refused(Refusal::Unsound, self);
         }
-        let first = self.first;
+        let bad = self.bad;
+        let count = bad.count;
+        let first = bad.first;
         if let First::At { position, byte } = first {
-            return Finalized::Refused(Refusal::NonMember { position, byte }, self);
+            return Finalized::Refused(
+                Refusal::NonMember {
+                    position,
+                    byte,
+                    count,
+                },
+                self,
+            );
         }
-        let count = (self.bits as usize + 7) / 8;
-        if room < count {
+        let last = (self.bits as usize + 7) / 8;
+        if room < last {
             return Finalized::Refused(Refusal::ShortMemory, self);
         }
-        Finalized::Wrote(count)
+        Finalized::Wrote(last)
     }
 
     // Writes the last byte, where bits pend, at the front of `out`; refused where a byte was no member.

@@ -9,8 +9,7 @@ ghost use Prim.Native.Nat.{_+_, _≤_};
 ghost use lib.ListN.{length};
 ghost use Rattle.bits.specs.Tables.{tabulate};
 ghost use Rattle.alphabet.specs.Symbols.{codingBy};
-ghost use Rattle.alphabet.specs.Questions.{limit};
-ghost use Rattle.packing.specs.Encode.{firstFrom, orFirst};
+ghost use Rattle.packing.specs.Encode.{membersAhead};
 ghost use Rattle.packing.specs.Run.{ToSearch, Overlaid, Searched, Usual};
 
 // A non-member's position and byte, where there is one.
@@ -19,8 +18,8 @@ pub enum First {
     At { position: usize, byte: u8 },
 }
 
-// The search goes by chunks, so that a run of other symbols slows no more than the chunks that it stands in.
-const CHUNK: usize = 4096;
+// The search, and the count behind it, go by chunks, so that a run of other symbols slows no more than the chunks that it stands in.
+pub const CHUNK: usize = 4096;
 
 // The entries of eight bytes, from byte i on, laid over one another: FF if one of them is.
 fn overlay(table: &[u8; 256], text: &[u8], i: usize) -> u8
@@ -89,44 +88,14 @@ fn find_invalid(fold: bool, table: &[u8; 256], text: &[u8]) -> usize
     find_in_chunk(fold, table, text, i, n)
 }
 
-// The first non-member of a text whose first byte has position `from`, by the alphabet's encoding table. Ascii holds every byte, and FF is a code there.
-pub fn first_from(
-    kind: AlphabetType,
-    fold: bool,
-    table: &[u8; 256],
-    from: usize,
-    text: &[u8],
-) -> First
-    requires { ⌜ (now table ≡ tabulate 256 (codingBy fold kind .code)) × (from + length (now text) ≤ limit) ⌝ }
-    ensures { λ r. ⌜ r ≡ firstFrom (codingBy fold kind) from (now (text .entry)) ⌝ }
+// The place of a text's first non-member, by the alphabet's encoding table, and the text's length where there is none. Ascii holds every byte, and FF is a code
+// there.
+pub fn find_bad(kind: AlphabetType, fold: bool, table: &[u8; 256], text: &[u8]) -> usize
+    requires { ⌜ now table ≡ tabulate 256 (codingBy fold kind .code) ⌝ }
+    ensures { λ r. ⌜ r ≡ membersAhead (codingBy fold kind) (now (text .entry)) ⌝ }
 {
     if 8 <= kind.bits_per_symbol() {
-        return First::Nothing;
+        return text.len();
     }
-    let i = find_invalid(fold, table, text);
-    if i < text.len() {
-        return First::At {
-            position: from + i,
-            byte: text[i],
-        };
-    }
-    First::Nothing
-}
-
-// The first non-member over all pieces: one that is known stays.
-pub fn first_of(
-    before: First,
-    kind: AlphabetType,
-    fold: bool,
-    table: &[u8; 256],
-    from: usize,
-    text: &[u8],
-) -> First
-    requires { ⌜ (now table ≡ tabulate 256 (codingBy fold kind .code)) × (from + length (now text) ≤ limit) ⌝ }
-    ensures { λ r. ⌜ r ≡ orFirst before (firstFrom (codingBy fold kind) from (now (text .entry))) ⌝ }
-{
-    if let First::At { position, byte } = before {
-        return First::At { position, byte };
-    }
-    first_from(kind, fold, table, from, text)
+    find_invalid(fold, table, text)
 }

@@ -1,6 +1,6 @@
 // A whole text packed in one call.
-use crate::first::First;
-use crate::first::first_from;
+use crate::count::count_bad;
+use crate::first::find_bad;
 use crate::run;
 use crate::run::left_over;
 use crate::table::lay_codes;
@@ -43,8 +43,13 @@ fn asked(kind: AlphabetType, fold: bool, table: &[u8; 256], text: &[u8], room: u
     if room < count {
         return Encoded::Refused(Refusal::ShortMemory);
     }
-    if let First::At { position, byte } = first_from(kind, fold, table, 0, text) {
-        return Encoded::Refused(Refusal::NonMember { position, byte });
+    let i = find_bad(kind, fold, table, text);
+    if i < len {
+        return Encoded::Refused(Refusal::NonMember {
+            position: i,
+            byte: text[i],
+            count: count_bad(kind, fold, table, &text[i..]),
+        });
     }
     Encoded::Wrote(count)
 }

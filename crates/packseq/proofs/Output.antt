@@ -22,7 +22,7 @@ use Rattle.alphabet.proofs.Laws.{lawful}
 use Rattle.alphabet.proofs.Calls.{kind-number, known-number, guess-members}
 use Rattle.packing.specs.declared.first.First.{First}
 use Rattle.packing.specs.declared.sequence.Encoded.{Encoded}
-use Rattle.packing.specs.Encode.{packing, firstFrom, unlessBad, encodeAt, encodeWrites, encodeMemory}
+use Rattle.packing.specs.Encode.{packing, firstFrom, badIn, unlessBad, encodeAt, encodeWrites, encodeMemory}
 use Rattle.packing.proofs.Search.{first-none}
 use Rattle.packing.proofs.Laid.{packing-length}
 use Rattle.lines.specs.Lines.{line, packedLines, refusedLine, putCount, putMemory}
@@ -45,7 +45,8 @@ encode-count n text room count e =
         ask a else Encoded.Refused (by 8 []) then
         ask b else Encoded.Refused (by 2 []) then
         ask c else Encoded.Refused (by 4 []) then
-        unlessBad f (λ position byte. Encoded.Refused (by 5 (position ∷ byte ∷ []))) (Encoded.Wrote (bytesFor (length text * numbered n .width)))) ≡ Encoded.Wrote count
+        unlessBad f (λ position byte. Encoded.Refused (by 5 (position ∷ byte ∷ badIn (numbered n) text ∷ [])))
+        (Encoded.Wrote (bytesFor (length text * numbered n .width)))) ≡ Encoded.Wrote count
         → bytesFor (length text * numbered n .width) ≡ count
     go true true true First.Nothing q = cc
     go true true true (First.At position byte) q = let z : _≡_ {A = ℕ} 0 1 = cc in absurd (omega arith)

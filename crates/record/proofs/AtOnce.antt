@@ -16,7 +16,7 @@ use Rattle.alphabet.specs.Symbols.{Coding}
 use Rattle.alphabet.specs.Names.{known, numberedBy}
 use Rattle.packing.specs.declared.first.First.{First}
 use Rattle.packing.specs.declared.sequence.Encoded.{Encoded}
-use Rattle.packing.specs.Encode.{packing, firstFrom, unlessBad, encodeAt, encodeWrites, encodeMemory}
+use Rattle.packing.specs.Encode.{packing, firstFrom, badIn, unlessBad, encodeAt, encodeWrites, encodeMemory}
 use Rattle.record.specs.Texts.{Members, Packed}
 use Rattle.record.proofs.Tallies.{length-packing}
 
@@ -73,7 +73,7 @@ module _ (alphabet : ℕ) (fold : Bool) (text : List ℕ) where
           ask a else Encoded.Refused (by 8 []) then
           ask b else Encoded.Refused (by 2 []) then
           ask c else Encoded.Refused (by 4 []) then
-          unlessBad f (λ position byte. Encoded.Refused (by 5 (position ∷ byte ∷ []))) (Encoded.Wrote need)
+          unlessBad f (λ position byte. Encoded.Refused (by 5 (position ∷ byte ∷ badIn (numberedBy fold alphabet) text ∷ []))) (Encoded.Wrote need)
 
       by-cases :
           (a b c : Bool) (f : First) →

@@ -14,11 +14,11 @@ use Rattle.alphabet.specs.Questions.{limit, inBounds, accepted}
 use Rattle.alphabet.specs.declared.kind.AlphabetType.{AlphabetType}
 use Rattle.alphabet.specs.Symbols.{Coding, codingBy}
 use Rattle.alphabet.specs.Names.{known, kindOf, numberedBy}
-use Rattle.packing.specs.Encode.{freshEncoder, encodeAt, encodeMemory}
+use Rattle.packing.specs.Encode.{freshEncoder, encodeAt, encodeMemory, membersAhead}
 use Rattle.record.specs.Calls.{Call, update, finalize, isAccepted, acceptedText, finished}
 use Rattle.record.specs.Texts.{Members}
 use Rattle.record.specs.Runs.{run}
-use Rattle.record.specs.Tally.{Turn, stay, bytesFilled, textPacked, membersAhead, completes, updateTurn, finalizeTurn, tally}
+use Rattle.record.specs.Tally.{Turn, stay, bytesFilled, textPacked, completes, updateTurn, finalizeTurn, tally}
 use Rattle.record.specs.Made.{EncodeCall}
 use Rattle.record.specs.EncoderLists.{EncoderList, alphabetIn, foldIn, Finished, textIn, bytesIn}
 use Rattle.record.specs.Record.{alphabetFor, foldFor, textFor, before, AtOnce}

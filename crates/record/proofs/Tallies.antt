@@ -2,11 +2,11 @@
 use mathlib.Core.Path.{_≡_, refl, sym, ap, ap₂, _∙_}
 use mathlib.Core.Bool.{Bool, true, false, cond}
 use mathlib.Core.List.{List, [], _∷_, _++_, append-nil}
-use Prim.Native.Nat.{ℕ, suc, _+_, _*_, _/_, _%_, _≤_, _<_}
-use native.Mathlib.Nat.{zero-add, add-zero, add-mul}
+use Prim.Native.Nat.{ℕ, _+_, _*_, _/_, _%_, _≤_, _<_}
+use native.Mathlib.Nat.{zero-add, add-mul}
 use native.Mathlib.Omega.{arith}
 use borrow.Author.Tests.{leb-true, le-leb, lt-leb, eqb-true, eqb-false, ltb-true, ltb-false}
-use lib.Dec.{leb, ltb, eqb, eqb·zero-suc, eqb·suc-suc}
+use lib.Dec.{leb, ltb, eqb}
 use lib.ListN.{length, take, drop, length-append, length-map}
 use Rattle.bits.specs.Tables.{tabulate, at}
 use Rattle.bits.specs.Streams.{cut}
@@ -21,10 +21,11 @@ use Rattle.packing.specs.declared.encoder.SequenceEncoder.{SequenceEncoder}
 use Rattle.packing.specs.declared.encoder.Updated.{Updated}
 use Rattle.packing.specs.declared.encoder.Finalized.{Finalized}
 use Rattle.packing.specs.Answers.{updatedReply, finalizedReply}
-use Rattle.packing.specs.Encode.{digitOf, packing, firstFrom, unlessBad, freshEncoder, pieceBits, pieceBitCount}
+use Rattle.packing.specs.Encode.{digitOf, packing, firstFrom, badIn, unlessBad, freshEncoder, pieceBits, pieceBitCount, membersAhead}
 use Rattle.packing.specs.Encode.{updateAt, updateWrites, updateMemory, finalizeAt, finalizeWrites, finalizeMemory}
+use Rattle.packing.proofs.Search.{first-ahead}
 use Rattle.record.specs.Calls.{Call, update, finalize, Outcome, isAccepted}
-use Rattle.record.specs.Tally.{textPacked, bytesFilled, membersAhead, Turn, stay, completes, updateTurn, finalizeTurn, shown, tally}
+use Rattle.record.specs.Tally.{textPacked, bytesFilled, Turn, stay, completes, updateTurn, finalizeTurn, shown, tally}
 use Rattle.record.specs.Runs.{nextEncoder, unlessFinal, run}
 use Rattle.record.proofs.States.{textBits, stateOf, fresh-state, state-sound, length-both, piece-bits, state-updated}
 
@@ -42,26 +43,6 @@ module _ (A : Coding) where
 
   pub length-packing : (text : List ℕ) → length (packing A text) ≡ bytesFor (length text * A .width)
   length-packing text = ap length (packing-cut text) ∙ length-cut 8 (textBits A text) 0 (bytesFor (length text * A .width))
-
-  pub first-ahead :
-      (i : ℕ) (text : List ℕ) →
-      firstFrom A i text ≡ cond (eqb (membersAhead A text) (length text)) First.Nothing (First.At (i + membersAhead A text) (at text (membersAhead A text)))
-  unfolding firstFrom membersAhead
-  first-ahead i [] = refl
-  first-ahead i (x ∷ text) = go (A .member x) (first-ahead (suc i) text)
-    where
-      a : ℕ
-      a = membersAhead A text
-
-      go :
-          (m : Bool) →
-          firstFrom A (suc i) text ≡ cond (eqb a (length text)) First.Nothing (First.At (suc i + a) (at text a)) →
-          cond m (firstFrom A (suc i) text) (First.At i x)
-          ≡ cond (eqb (cond m (suc a) 0) (suc (length text))) First.Nothing (First.At (i + cond m (suc a) 0) (at (x ∷ text) (cond m (suc a) 0)))
-      go true ih =
-          let next : suc i + a ≡ i + suc a = omega arith in
-          ih ∙ ap₂ (λ (b : Bool) (j : ℕ). cond b First.Nothing (First.At j (at text a))) (sym (eqb·suc-suc a (length text))) next
-      go false ih = rw (eqb·zero-suc (length text)) (ap (λ (j : ℕ). First.At j x) (sym (add-zero i)))
 
 -- the question of memory for one byte
 due : (s : SequenceEncoder) (c d room : ℕ) (b : Bool) → c ≡ d → leb d room ≡ b
@@ -166,7 +147,7 @@ module _ (fold : Bool) (k : AlphabetType) where
         length text ≤ limit →
         finalizeAt (state text) room
         ≡ (ask eqb (membersAhead A text) (length text)
-        else Finalized.Refused (by 5 (membersAhead A text ∷ at text (membersAhead A text) ∷ [])) (state text) then
+        else Finalized.Refused (by 5 (membersAhead A text ∷ at text (membersAhead A text) ∷ badIn A text ∷ [])) (state text) then
         ask leb (bytesFor pends) room else Finalized.Refused (by 4 []) (state text) then
         Finalized.Wrote (bytesFor pends))
     unfolding finalizeAt stateOf
@@ -182,12 +163,12 @@ module _ (fold : Bool) (k : AlphabetType) where
         rest = ask leb (bytesFor pends) room else Finalized.Refused (by 4 []) (state text) then Finalized.Wrote (bytesFor pends)
 
         asked : First → Finalized
-        asked first = unlessBad first (λ position byte. Finalized.Refused (by 5 (position ∷ byte ∷ [])) (state text)) rest
+        asked first = unlessBad first (λ position byte. Finalized.Refused (by 5 (position ∷ byte ∷ badIn A text ∷ [])) (state text)) rest
 
         go :
             (b : Bool) →
             asked (cond b First.Nothing (First.At a (at text a)))
-            ≡ (ask b else Finalized.Refused (by 5 (a ∷ at text a ∷ [])) (state text) then rest)
+            ≡ (ask b else Finalized.Refused (by 5 (a ∷ at text a ∷ badIn A text ∷ [])) (state text) then rest)
         go true = refl
         go false = refl
 
@@ -219,15 +200,15 @@ module _ (fold : Bool) (k : AlphabetType) where
           eqb (pends text) 0 ≡ p →
           ltb 0 (length memory) ≡ m →
           after
-          (ask b else Finalized.Refused (by 5 (a ∷ at text a ∷ [])) (state text) then
+          (ask b else Finalized.Refused (by 5 (a ∷ at text a ∷ badIn A text ∷ [])) (state text) then
           ask leb (bytesFor (pends text)) (length memory) else Finalized.Refused (by 4 []) (state text) then
           Finalized.Wrote (bytesFor (pends text)))
           ≡ next
-          (ask b else stay text (refused 5 (a ∷ at text a ∷ [])) then
+          (ask b else stay text (refused 5 (a ∷ at text a ∷ badIn A text ∷ [])) then
           cond p (stay text (accepted (0 ∷ [])))
           (ask m else stay text (refused 4 []) then
           record { reply = accepted (1 ∷ []); bytes = drop (bytesFilled A (length text)) (textPacked A text); text = text }))
-      by-cases false p m e q = ap (λ (os : List Outcome). record { reply = refused 5 (a ∷ at text a ∷ []); memory = front [] memory } ∷ os) go
+      by-cases false p m e q = ap (λ (os : List Outcome). record { reply = refused 5 (a ∷ at text a ∷ badIn A text ∷ []); memory = front [] memory } ∷ os) go
       by-cases true true m e q =
           let z : pends text ≡ 0 = eqb-true (pends text) 0 e in
           ap after (due (state text) (bytesFor (pends text)) 0 (length memory) true (omega arith) (le-leb 0 (length memory) (omega arith)))

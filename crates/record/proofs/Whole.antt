@@ -19,9 +19,9 @@ use Rattle.alphabet.specs.Questions.{ask_else_then_, limit, inBounds, accepted,
 use Rattle.alphabet.specs.Symbols.{Coding, codingBy}
 use Rattle.alphabet.specs.Names.{known, kindOf, numberedBy}
 use Rattle.alphabet.proofs.Laws.{lawful}
-use Rattle.packing.specs.Encode.{digitOf, digitsOf, packing, freshEncoder}
+use Rattle.packing.specs.Encode.{digitOf, digitsOf, packing, freshEncoder, badIn, membersAhead}
 use Rattle.record.specs.Calls.{Call, update, finalize, Outcome, isAccepted, written, acceptedText, finished}
-use Rattle.record.specs.Tally.{textPacked, bytesFilled, membersAhead, Turn, stay, completes, updateTurn, finalizeTurn, tally}
+use Rattle.record.specs.Tally.{textPacked, bytesFilled, Turn, stay, completes, updateTurn, finalizeTurn, tally}
 use Rattle.record.specs.Runs.{run}
 use Rattle.record.specs.Texts.{Members, Packed}
 use Rattle.record.proofs.States.{textBits, length-both}
@@ -175,7 +175,7 @@ module _ (fold : Bool) (k : AlphabetType) where
             eqb a (length text) ≡ b →
             eqb (length text * A .width % 8) 0 ≡ p →
             AfterFinalize
-            (ask b else stay text (refused 5 (a ∷ at text a ∷ [])) then
+            (ask b else stay text (refused 5 (a ∷ at text a ∷ badIn A text ∷ [])) then
             cond p (stay text (accepted (0 ∷ [])))
             (ask m else stay text (refused 4 []) then record { reply = accepted (1 ∷ []); bytes = last; text = text }))
         by-cases false p m e q g = ih g

@@ -2,6 +2,7 @@
 use mathlib.Core.Path.{refl}
 use lib.Count.{trailingZeros}
 use Rattle.bits.specs.Tables.{tabulate, bytesOf}
+use Rattle.bits.specs.Counts.{howMany}
 use Rattle.bits.specs.Streams.{bitAt, word, after, cut}
 use Rattle.bits.specs.Packing.{pack, atHand, fileByte, codesFrom}
 use Rattle.alphabet.specs.Symbols.{coded, dna2bit, dna3bit, dnaIupac, protein, among, found, listed, plain, coding, upper}
@@ -17,7 +18,7 @@ use Rattle.record.specs.Runs.{run}
 use Rattle.record.specs.Rows.{Hold, rows}
 
 pub rows-hold : Hold rows
-unfolding trailingZeros tabulate bitAt word after cut pack atHand fileByte codesFrom bytesOf coded dna2bit dna3bit dnaIupac protein among found listed plain
+unfolding trailingZeros tabulate howMany bitAt word after cut pack atHand fileByte codesFrom bytesOf coded dna2bit dna3bit dnaIupac protein among found listed plain
     coding upper displayName kindOf namedAt holders maskOf masked lowest guessOf soundGuesser guesserUpdateAt guessAt digitOf packing firstFrom encodeAt encodeWrites
     encodeMemory freshEncoder soundEncoder pieceBits pieceBitCount updated updateAt updateWrites updateMemory finalizeAt finalizeWrites finalizeMemory rangeAt window
     covers readAt coveredAt readWrites readMemory coveredMemory freshStream soundStream startStreamAt greatest sourceBits used takes basesOf moved movedBy streamAt

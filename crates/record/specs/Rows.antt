@@ -1,6 +1,6 @@
 -- The worked table. States the starred rows of document 01, "Worked table", for each alphabet a row of codes and its name from "Leaf 1", and then rows for what
--- the words settle and no starred row shows: each status, each bound, and which question comes first where two are answered by no; and for request A1 what comes
--- of folding. One list of calls and what comes of them, in numbers and texts that are written out.
+-- the words settle and no starred row shows: each status, each bound, and which question comes first where two are answered by no; for request A1 what
+-- comes of folding, and for request A5 how non-members are counted. One list of calls and what comes of them, in numbers and texts that are written out.
 use Prim.Native.Nat.{ℕ}
 use Prim.Native.String.{String}
 use mathlib.Core.Path.{_≡_}
@@ -138,8 +138,9 @@ masked mask fold = tells (guessedReply (guessAt (record { acc = mask; fold = fol
 abbrev pub sees : ℕ → Bool → String → Told
 sees mask fold text = tells (guesserUpdatedReply (guesserUpdateAt (record { acc = mask; fold = fold }) (bytesOf text)))
 
-abbrev pub encoder : AlphabetType → ℕ → ℕ → ℕ → First → Bool → SequenceEncoder
-encoder k seen bits pending first fold = record { alphabet = k; seen = seen; bits = bits; pending = pending; first = first; fold = fold }
+abbrev pub encoder : AlphabetType → ℕ → ℕ → ℕ → First → ℕ → Bool → SequenceEncoder
+encoder k seen bits pending first count fold =
+    record { alphabet = k; seen = seen; bits = bits; pending = pending; bad = record { first = first; count = count }; fold = fold }
 
 abbrev pub update : SequenceEncoder → String → ℕ → Told
 update s piece room = tells (updatedReply (updateAt s (bytesOf piece) room))
@@ -181,7 +182,7 @@ rows =
     ∷ packs Dna3bit keeping "ACGTNRYU" gives writes (0x05 ∷ 0x39 ∷ 0x77 ∷ [])
     ∷ packs DnaIupac keeping "NACM" gives writes (0x01 ∷ 0x23 ∷ [])
     ∷ packs Protein keeping "MK*" gives writes (0x52 ∷ 0x28 ∷ [])
-    ∷ packs Dna2bit keeping "ACNT" gives refuses 5 (2 ∷ 0x4e ∷ [])
+    ∷ packs Dna2bit keeping "ACNT" gives refuses 5 (2 ∷ 0x4e ∷ 1 ∷ [])
     ∷ guess keeping "" gives kind Dna2bit
     ∷ guess keeping "ACGU" gives kind Dna3bit
     ∷ guess keeping "ACGTS" gives kind DnaIupac
@@ -225,8 +226,8 @@ rows =
     ∷ read 0 0 0 1152921504606846977 0 gives no 2
     ∷ read 0 1152921504606846976 0 1 1 gives yes (1 ∷ [])
     ∷ read 0 1152921504606846977 0 1 1 gives no 2
-    ∷ update (encoder Ascii 1152921504606846975 0 0 First.Nothing keeping) "A" 1 gives yes (1 ∷ [])
-    ∷ update (encoder Ascii 1152921504606846976 0 0 First.Nothing keeping) "A" 1 gives no 2
+    ∷ update (encoder Ascii 1152921504606846975 0 0 First.Nothing 0 keeping) "A" 1 gives yes (1 ∷ [])
+    ∷ update (encoder Ascii 1152921504606846976 0 0 First.Nothing 0 keeping) "A" 1 gives no 2
     -- `byte_range_for_bases`: bits at most 8; 9 before 2
     ∷ range 0 1 9 gives no 9
     ∷ range 1152921504606846977 0 9 gives no 9
@@ -257,21 +258,21 @@ rows =
     ∷ masked 31 keeping gives yes (0 ∷ [])
     ∷ masked 32 keeping gives no 1
     -- the encoder's state: symbols seen, pending bit count, pending value; a first non-member that is a member, stands at `seen`, or stands below it
-    ∷ update (encoder Ascii 1152921504606846977 0 0 First.Nothing keeping) "" 0 gives no 1
-    ∷ update (encoder Dna2bit 1 0 0 First.Nothing keeping) "" 0 gives no 1
-    ∷ update (encoder Dna2bit 1 2 4 First.Nothing keeping) "" 0 gives no 1
-    ∷ update (encoder Dna2bit 1 2 3 First.Nothing keeping) "" 0 gives yes (0 ∷ [])
-    ∷ finalize (encoder Dna2bit 1 2 3 (First.At 0 0x41) keeping) 1 gives no 1
-    ∷ finalize (encoder Dna2bit 1 2 3 (First.At 1 0x4e) keeping) 1 gives no 1
-    ∷ finalize (encoder Dna2bit 1 2 3 (First.At 0 0x4e) keeping) 1 gives tells (refused 5 (0 ∷ 0x4e ∷ []))
+    ∷ update (encoder Ascii 1152921504606846977 0 0 First.Nothing 0 keeping) "" 0 gives no 1
+    ∷ update (encoder Dna2bit 1 0 0 First.Nothing 0 keeping) "" 0 gives no 1
+    ∷ update (encoder Dna2bit 1 2 4 First.Nothing 0 keeping) "" 0 gives no 1
+    ∷ update (encoder Dna2bit 1 2 3 First.Nothing 0 keeping) "" 0 gives yes (0 ∷ [])
+    ∷ finalize (encoder Dna2bit 1 2 3 (First.At 0 0x41) 1 keeping) 1 gives no 1
+    ∷ finalize (encoder Dna2bit 1 2 3 (First.At 1 0x4e) 1 keeping) 1 gives no 1
+    ∷ finalize (encoder Dna2bit 1 2 3 (First.At 0 0x4e) 1 keeping) 1 gives tells (refused 5 (0 ∷ 0x4e ∷ 1 ∷ []))
     -- `update`: 1 before 2 and 4, 2 before 4
-    ∷ update (encoder Ascii 1152921504606846976 1 0 First.Nothing keeping) "A" 1 gives no 1
-    ∷ update (encoder Dna2bit 1 0 0 First.Nothing keeping) "ACGT" 0 gives no 1
-    ∷ update (encoder Ascii 1152921504606846976 0 0 First.Nothing keeping) "A" 0 gives no 2
+    ∷ update (encoder Ascii 1152921504606846976 1 0 First.Nothing 0 keeping) "A" 1 gives no 1
+    ∷ update (encoder Dna2bit 1 0 0 First.Nothing 0 keeping) "ACGT" 0 gives no 1
+    ∷ update (encoder Ascii 1152921504606846976 0 0 First.Nothing 0 keeping) "A" 0 gives no 2
     -- `finalize`: 1 before 5 (above) and 4, 5 before 4
-    ∷ finalize (encoder Dna2bit 1 2 4 First.Nothing keeping) 0 gives no 1
-    ∷ finalize (encoder Dna2bit 1 2 3 First.Nothing keeping) 0 gives no 4
-    ∷ finalize (encoder Dna2bit 1 2 3 (First.At 0 0x4e) keeping) 0 gives tells (refused 5 (0 ∷ 0x4e ∷ []))
+    ∷ finalize (encoder Dna2bit 1 2 4 First.Nothing 0 keeping) 0 gives no 1
+    ∷ finalize (encoder Dna2bit 1 2 3 First.Nothing 0 keeping) 0 gives no 4
+    ∷ finalize (encoder Dna2bit 1 2 3 (First.At 0 0x4e) 1 keeping) 0 gives tells (refused 5 (0 ∷ 0x4e ∷ 1 ∷ []))
     -- the stream's state: skip, pending bit count, pending value, nothing pending while the skip is due; 1 before 7
     ∷ end Dna2bit 0 0 7 127 gives yes []
     ∷ end Dna2bit 0 0 7 128 gives no 1
@@ -284,7 +285,7 @@ rows =
     ∷ guess folding "acgX" gives kind Protein
     ∷ guess folding "acg[" gives kind Ascii
     ∷ packs Dna2bit folding "acgt" gives writes (0x9c ∷ [])
-    ∷ packs Dna2bit folding "acnt" gives refuses 5 (2 ∷ 0x6e ∷ [])
+    ∷ packs Dna2bit folding "acnt" gives refuses 5 (2 ∷ 0x6e ∷ 1 ∷ [])
     ∷ codes Dna2bit folding "acgtn[" gives bytes (2 ∷ 1 ∷ 3 ∷ 0 ∷ 0xff ∷ 0xff ∷ [])
     ∷ codes Dna3bit folding "tnryux" gives bytes (3 ∷ 4 ∷ 5 ∷ 6 ∷ 7 ∷ 0xff ∷ [])
     ∷ codes DnaIupac folding "nacmv" gives bytes (0 ∷ 1 ∷ 2 ∷ 3 ∷ 15 ∷ [])
@@ -302,9 +303,21 @@ rows =
     ∷ sees 31 keeping "acgt" gives yes (16 ∷ 0 ∷ [])
     ∷ sees 31 folding "acgt" gives yes (31 ∷ 1 ∷ [])
     ∷ pieces Dna2bit folding "acgtA" "cT" gives joins (accepted (1 ∷ []) ∷ accepted (0 ∷ []) ∷ accepted (1 ∷ []) ∷ []) (0x9c ∷ 0x90 ∷ [])
-    ∷ pieces Dna2bit keeping "ACGTA" "cT" gives joins (accepted (1 ∷ []) ∷ accepted (0 ∷ []) ∷ refused 5 (5 ∷ 0x63 ∷ []) ∷ []) (0x9c ∷ [])
+    ∷ pieces Dna2bit keeping "ACGTA" "cT" gives joins (accepted (1 ∷ []) ∷ accepted (0 ∷ []) ∷ refused 5 (5 ∷ 0x63 ∷ 1 ∷ []) ∷ []) (0x9c ∷ [])
     -- the encoder's state: a first non-member is none by the state's own choice
-    ∷ finalize (encoder Dna2bit 1 2 3 (First.At 0 0x61) keeping) 1 gives tells (refused 5 (0 ∷ 0x61 ∷ []))
-    ∷ finalize (encoder Dna2bit 1 2 3 (First.At 0 0x61) folding) 1 gives no 1
-    ∷ finalize (encoder Dna2bit 1 2 3 (First.At 0 0x6e) folding) 1 gives tells (refused 5 (0 ∷ 0x6e ∷ []))
+    ∷ finalize (encoder Dna2bit 1 2 3 (First.At 0 0x61) 1 keeping) 1 gives tells (refused 5 (0 ∷ 0x61 ∷ 1 ∷ []))
+    ∷ finalize (encoder Dna2bit 1 2 3 (First.At 0 0x61) 1 folding) 1 gives no 1
+    ∷ finalize (encoder Dna2bit 1 2 3 (First.At 0 0x6e) 1 folding) 1 gives tells (refused 5 (0 ∷ 0x6e ∷ 1 ∷ []))
+    -- non-members are counted over the whole text, by the choice to fold, and over all pieces
+    ∷ packs Dna2bit keeping "NACGTNN" gives refuses 5 (0 ∷ 0x4e ∷ 3 ∷ [])
+    ∷ packs Dna2bit keeping "ACnaN" gives refuses 5 (2 ∷ 0x6e ∷ 3 ∷ [])
+    ∷ packs Dna2bit folding "ACnaN" gives refuses 5 (2 ∷ 0x6e ∷ 2 ∷ [])
+    ∷ pieces Dna2bit keeping "ACNTN" "NT" gives joins (accepted (1 ∷ []) ∷ accepted (0 ∷ []) ∷ refused 5 (2 ∷ 0x4e ∷ 3 ∷ []) ∷ []) (0x9c ∷ [])
+    ∷ pieces Dna2bit keeping "ACGTA" "NNT" gives joins (accepted (1 ∷ []) ∷ accepted (1 ∷ []) ∷ refused 5 (5 ∷ 0x4e ∷ 2 ∷ []) ∷ []) (0x9c ∷ 0xbc ∷ [])
+    -- the encoder's state: a count without a first non-member, a first one without a count, as many as were seen from it on, one more
+    ∷ finalize (encoder Dna2bit 3 6 0 First.Nothing 1 keeping) 1 gives no 1
+    ∷ finalize (encoder Dna2bit 3 6 0 (First.At 1 0x4e) 0 keeping) 1 gives no 1
+    ∷ finalize (encoder Dna2bit 3 6 0 (First.At 1 0x4e) 2 keeping) 1 gives tells (refused 5 (1 ∷ 0x4e ∷ 2 ∷ []))
+    ∷ finalize (encoder Dna2bit 3 6 0 (First.At 1 0x4e) 3 keeping) 1 gives no 1
+    ∷ update (encoder Dna2bit 3 6 0 (First.At 3 0x4e) 1 keeping) "" 0 gives no 1
     ∷ []

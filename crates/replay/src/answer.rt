@@ -9,14 +9,14 @@ ghost use mathlib.Core.Bool.{true};
 pub struct Answer {
     pub takes: usize,
     pub tells: usize,
-    pub words: [u64; 10],
+    pub words: [u64; 11],
 }
 
 pub fn unknown() -> Answer {
     Answer {
         takes: 0,
         tells: 0,
-        words: [0; 10],
+        words: [0; 11],
     }
 }
 
@@ -24,7 +24,7 @@ pub fn one(takes: usize, word: u64) -> Answer {
     Answer {
         takes,
         tells: 1,
-        words: [word, 0, 0, 0, 0, 0, 0, 0, 0, 0],
+        words: [word, 0, 0, 0, 0, 0, 0, 0, 0, 0, 0],
     }
 }
 
@@ -32,7 +32,7 @@ pub fn two(takes: usize, first: u64, second: u64) -> Answer {
     Answer {
         takes,
         tells: 2,
-        words: [first, second, 0, 0, 0, 0, 0, 0, 0, 0],
+        words: [first, second, 0, 0, 0, 0, 0, 0, 0, 0, 0],
     }
 }
 
@@ -40,7 +40,7 @@ pub fn three(takes: usize, first: u64, second: u64, third: u64) -> Answer {
     Answer {
         takes,
         tells: 3,
-        words: [first, second, third, 0, 0, 0, 0, 0, 0, 0],
+        words: [first, second, third, 0, 0, 0, 0, 0, 0, 0, 0],
     }
 }
 
@@ -55,12 +55,13 @@ pub fn count(takes: usize, answer: Count) -> Answer {
 pub fn packed(takes: usize, answer: Packed) -> Answer {
     Answer {
         takes,
-        tells: 4,
+        tells: 5,
         words: [
             answer.refusal,
             answer.count,
             answer.position,
             answer.byte,
+            answer.bad_count,
             0,
             0,
             0,

@@ -14,8 +14,8 @@ use fantailclock::fc_encoder_finalize;
 use fantailclock::fc_encoder_new;
 use fantailclock::fc_encoder_update;
 
-// The state that eight numbers make.
-fn encoder(given: &[u64; 10]) -> Encoder {
+// The state that nine numbers make.
+fn encoder(given: &[u64; 11]) -> Encoder {
     Encoder {
         alphabet: given[0],
         seen: given[1],
@@ -25,6 +25,7 @@ fn encoder(given: &[u64; 10]) -> Encoder {
         bad_position: given[5],
         bad_byte: given[6],
         fold: given[7],
+        bad_count: given[8],
     }
 }
 
@@ -32,7 +33,7 @@ fn started(answer: EncoderStarted) -> Answer {
     let next = answer.next;
     Answer {
         takes: 2,
-        tells: 9,
+        tells: 10,
         words: [
             answer.refusal,
             next.alphabet,
@@ -43,6 +44,7 @@ fn started(answer: EncoderStarted) -> Answer {
             next.bad_position,
             next.bad_byte,
             next.fold,
+            next.bad_count,
             0,
         ],
     }
@@ -51,8 +53,8 @@ fn started(answer: EncoderStarted) -> Answer {
 fn updated(answer: Updated) -> Answer {
     let next = answer.next;
     Answer {
-        takes: 8,
-        tells: 10,
+        takes: 9,
+        tells: 11,
         words: [
             answer.refusal,
             answer.count,
@@ -64,6 +66,7 @@ fn updated(answer: Updated) -> Answer {
             next.bad_position,
             next.bad_byte,
             next.fold,
+            next.bad_count,
         ],
     }
 }
@@ -93,13 +96,13 @@ fn place(name: &[u8]) -> u64 {
 }
 
 // The answer of the function of that name.
-pub fn answer(name: &[u8], given: &[u64; 10], text: &[u8], out: &mut [u8]) -> Answer {
+pub fn answer(name: &[u8], given: &[u64; 11], text: &[u8], out: &mut [u8]) -> Answer {
     let first = given[0];
     let second = given[1];
     match place(name) {
         1 => started(fc_encoder_new(first, second)),
         2 => updated(fc_encoder_update(encoder(given), text, out)),
-        3 => packed(8, fc_encoder_finalize(encoder(given), out)),
+        3 => packed(9, fc_encoder_finalize(encoder(given), out)),
         4 => packed(2, fc_encode_sequence(first, second, text, out)),
         5 => range(fc_byte_range_for_bases(first, second, given[2])),
         _ => unknown(),

@@ -19,7 +19,7 @@ use fantailclock::fc_guesser_new;
 use fantailclock::fc_guesser_update;
 
 // The state that two numbers make.
-fn guesser(given: &[u64; 10]) -> Guesser {
+fn guesser(given: &[u64; 11]) -> Guesser {
     Guesser {
         mask: given[0],
         fold: given[1],
@@ -65,7 +65,7 @@ fn place(name: &[u8]) -> u64 {
 }
 
 // The answer of the function of that name.
-pub fn answer(name: &[u8], given: &[u64; 10], text: &[u8], out: &mut [u8]) -> Answer {
+pub fn answer(name: &[u8], given: &[u64; 11], text: &[u8], out: &mut [u8]) -> Answer {
     let first = given[0];
     let second = given[1];
     match place(name) {

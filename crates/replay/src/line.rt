@@ -36,7 +36,7 @@ struct Told {
 fn read_call(
     line: &[u8],
     at: usize,
-    numbers: &mut [u64; 10],
+    numbers: &mut [u64; 11],
     text: &mut [u8; 320],
     memory: &mut [u8; 320],
 ) -> Call {
@@ -64,7 +64,7 @@ fn behind_answerer(line: &[u8], at: usize) -> usize {
 }
 
 // Reads the numbers and the memory of the answer, which must end the line.
-fn read_told(line: &[u8], at: usize, words: &mut [u64; 10], memory: &mut [u8; 320]) -> Told {
+fn read_told(line: &[u8], at: usize, words: &mut [u64; 11], memory: &mut [u8; 320]) -> Told {
     let told = read_numbers(line, behind_answerer(line, at), words);
     let room = read_bytes(line, told.next, memory);
     Told {
@@ -75,7 +75,7 @@ fn read_told(line: &[u8], at: usize, words: &mut [u64; 10], memory: &mut [u8; 32
 }
 
 // What the port answers.
-fn answered(name: &[u8], given: &[u64; 10], text: &[u8], out: &mut [u8]) -> Answer {
+fn answered(name: &[u8], given: &[u64; 11], text: &[u8], out: &mut [u8]) -> Answer {
     let of_kinds = crate::kinds::answer(name, given, text, out);
     if 0 < of_kinds.tells {
         return of_kinds;
@@ -95,7 +95,7 @@ fn answered(name: &[u8], given: &[u64; 10], text: &[u8], out: &mut [u8]) -> Answ
 fn answered_front(
     line: &[u8],
     end: usize,
-    given: &[u64; 10],
+    given: &[u64; 11],
     text: &[u8],
     n: usize,
     memory: &mut [u8],
@@ -112,7 +112,7 @@ fn answered_call(
     line: &[u8],
     end: usize,
     call: Call,
-    given: &[u64; 10],
+    given: &[u64; 11],
     text: &[u8; 320],
     memory: &mut [u8; 320],
 ) -> Answer {
@@ -124,7 +124,7 @@ fn compared(
     answer: Answer,
     call: Call,
     told: Told,
-    words: &[u64; 10],
+    words: &[u64; 11],
     memory: &[u8; 320],
     left: &[u8; 320],
 ) -> Outcome
@@ -152,10 +152,10 @@ fn compared(
 // Makes the call of a line, and compares the answer with the line's. What is not lent holds A5, so that a byte read behind the lent ones shows, and one written
 // there too.
 pub fn replayed(line: &[u8]) -> Outcome {
-    let mut numbers = [0u64; 10];
+    let mut numbers = [0u64; 11];
     let mut text = [0xA5u8; 320];
     let mut memory = [0xA5u8; 320];
-    let mut words = [0u64; 10];
+    let mut words = [0u64; 11];
     let mut left = [0xA5u8; 320];
     let end = find(line, 0, line.len(), b' ');
     let call = read_call(line, end, &mut numbers, &mut text, &mut memory);

@@ -84,13 +84,13 @@ fn number(line: &[u8], at: usize) -> Value
     }
 }
 
-// The numbers from `at` on, up to ten.
-pub fn read_numbers(line: &[u8], at: usize, out: &mut [u64; 10]) -> Row
-    ensures { λ r. ⌜ r .count ≤ 10 ⌝ }
+// The numbers from `at` on, up to eleven.
+pub fn read_numbers(line: &[u8], at: usize, out: &mut [u64; 11]) -> Row
+    ensures { λ r. ⌜ r .count ≤ 11 ⌝ }
 {
     let mut count = 0;
     let mut next = at;
-    while count < 10 {
+    while count < 11 {
         let one = number(line, next);
         if !one.found {
             break;

@@ -43,7 +43,7 @@ fn size(number: u64) -> usize {
 }
 
 // The answer of the function of that name.
-pub fn answer(name: &[u8], given: &[u64; 10], bytes: &[u8], out: &mut [u8]) -> Answer {
+pub fn answer(name: &[u8], given: &[u64; 11], bytes: &[u8], out: &mut [u8]) -> Answer {
     let alphabet = given[0];
     let first = size(alphabet);
     let second = size(given[1]);

@@ -12,7 +12,7 @@ use fantailclock::fc_stream_new;
 use fantailclock::fc_stream_read;
 
 // The state that five numbers make.
-fn stream(given: &[u64; 10]) -> Stream {
+fn stream(given: &[u64; 11]) -> Stream {
     Stream {
         alphabet: given[0],
         skip: given[1],
@@ -38,6 +38,7 @@ fn started(answer: StreamStarted) -> Answer {
             0,
             0,
             0,
+            0,
         ],
     }
 }
@@ -57,6 +58,7 @@ fn streamed(answer: Streamed) -> Answer {
             next.budget,
             next.pending_bits,
             next.pending,
+            0,
             0,
         ],
     }
@@ -81,7 +83,7 @@ fn place(name: &[u8]) -> u64 {
 }
 
 // The answer of the function of that name.
-pub fn answer(name: &[u8], given: &[u64; 10], source: &[u8], out: &mut [u8]) -> Answer {
+pub fn answer(name: &[u8], given: &[u64; 11], source: &[u8], out: &mut [u8]) -> Answer {
     match place(name) {
         1 => started(fc_stream_new(given[0], given[1], given[2])),
         2 => streamed(fc_stream_read(stream(given), source, out)),

@@ -37,11 +37,17 @@ fn print_number(number: u64) {
 fn print_refusal(refusal: Refusal) {
     print(b"refused ");
     match refusal {
-        Refusal::NonMember { position, byte } => {
+        Refusal::NonMember {
+            position,
+            byte,
+            count,
+        } => {
             print(b"5, position ");
             print_number(position as u64);
             print(b", byte ");
             print_byte(byte);
+            print(b", count ");
+            print_number(count as u64);
         }
         Refusal::Outstanding(bases) => {
             print(b"7, ");
@@ -87,27 +93,32 @@ fn pack_by_update(alphabet: u64, text: &[u8]) {
     let Updated::Wrote(count, next) = encoder.update(text, &mut out) else {
         return;
     };
-    print(b"update ACNT: ");
-    print_front(&out, count);
+    print_piece(text, &out, count);
     finish(next);
 }
 
-// Two pieces with folding, then `finalize`: the choice stays in the state.
-fn pack_folding(alphabet: u64, one: &[u8], two: &[u8]) {
-    let EncoderStarted::Fresh(encoder) = SequenceEncoder::new(alphabet, true) else {
+// The bytes that a piece completes, behind its label.
+fn print_piece(label: &[u8], memory: &[u8], count: usize) {
+    print(b"update ");
+    print(label);
+    print(b": ");
+    print_front(memory, count);
+}
+
+// Two pieces, then `finalize`: the choice to fold and the non-members so far stay in the state.
+fn pack_pieces(label: &[u8], fold: bool, one: &[u8], two: &[u8]) {
+    let EncoderStarted::Fresh(encoder) = SequenceEncoder::new(0, fold) else {
         return;
     };
     let mut out = [0xAA; 9];
     let Updated::Wrote(first, middle) = encoder.update(one, &mut out) else {
         return;
     };
-    print(b"update acgta, folding: ");
-    print_front(&out, first);
+    print_piece(label, &out, first);
     let Updated::Wrote(second, next) = middle.update(two, &mut out) else {
         return;
     };
-    print(b"update cnt: ");
-    print_front(&out, second);
+    print_piece(two, &out, second);
     finish(next);
 }
 
@@ -141,7 +152,14 @@ fn folding() {
     pack(b"Dna2bit acgt, folding: ", 0, true, b"acgt");
     pack(b"Dna2bit acnt, folding: ", 0, true, b"acnt");
     pack(b"Ascii az, folding: ", 4, true, b"az");
-    pack_folding(0, b"acgta", b"cnt");
+    pack_pieces(b"acgta, folding", true, b"acgta", b"cnt");
+}
+
+// Non-members, counted over the whole text and over all pieces.
+fn counting() {
+    pack(b"Dna2bit NACGTNN: ", 0, false, b"NACGTNN");
+    pack(b"Dna2bit ACnaN, folding: ", 0, true, b"ACnaN");
+    pack_pieces(b"ACNTN", false, b"ACNTN", b"NTT");
 }
 
 fn windows() {
@@ -203,6 +221,7 @@ fn main() {
     pack(b"Dna2bit ACNT: ", 0, false, b"ACNT");
     pack_by_update(0, b"ACNT");
     folding();
+    counting();
     windows();
     stream();
 }

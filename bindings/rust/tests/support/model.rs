@@ -1,6 +1,7 @@
-//! Packing and reading bit by bit, written from the symbol lists of the rules and not from the library.
+//! Packing and reading bit by bit, and what makes an encoder's state sound, written from the rules and their symbol lists and
+//! not from the library.
 
-use fantailclock::{Alphabet, Folding};
+use fantailclock::{raw, Alphabet, Error, Folding, Result};
 
 const LISTS: [&[u8]; 4] = [b"TCAG", b"ACGTNRYU", b"NACMGRSKTWYUBDHV", b"ACDEFGHIKLMNPQRSTVWY*X-.UBZOJ"];
 const BITS: [u64; 6] = [2, 3, 4, 5, 8, 8];
@@ -49,6 +50,64 @@ pub fn pack(alphabet: Alphabet, text: &[u8]) -> Vec<u8> {
         }
     }
     packed
+}
+
+/// Accepts a text of members; the refusal of any other has the first non-member as it was received, and how many there are.
+pub fn all_members(alphabet: Alphabet, folding: Folding, text: &[u8]) -> Result<()> {
+    let taken = taken(alphabet, folding, text);
+    let strange: Vec<usize> = (0..text.len()).filter(|&at| !contains(alphabet, taken[at])).collect();
+    strange.first().map_or(Ok(()), |&first| {
+        Err(Error::NotMember { position: first as u64, byte: text[first], count: strange.len() as u64 })
+    })
+}
+
+/// Question 4, of an encoder's state that a host hands in: every number asked, the alphabet's first.
+pub fn judged(state: &raw::Encoder) -> Result<()> {
+    let alphabet = Alphabet::try_from(state.alphabet)?;
+    let folding = Folding::from(state.fold == 1);
+    let numbers = state.seen <= 1 << 60
+        && state.pending_bits == state.seen * bits(alphabet) % 8
+        && state.pending < 1 << state.pending_bits
+        && state.fold <= 1;
+    let from_first = state.seen.checked_sub(state.bad_position); // the symbols seen from the first non-member on
+    let strange = |byte: u64| byte <= 255 && all_members(alphabet, folding, &[byte as u8]).is_err();
+    let bad = match state.has_bad {
+        0 => state.bad_count == 0, // position and byte are ignored
+        1 => strange(state.bad_byte) && from_first.map_or(false, |most| (1..=most).contains(&state.bad_count)),
+        _ => false,
+    };
+    if numbers && bad {
+        Ok(())
+    } else {
+        Err(Error::Unsound)
+    }
+}
+
+/// The bytes that a piece completes, and the state after it, of a sound state that the piece does not take beyond 2^60.
+pub fn updated(state: &raw::Encoder, piece: &[u8]) -> (Vec<u8>, raw::Encoder) {
+    let alphabet = Alphabet::try_from(state.alphabet).unwrap();
+    let (list, width, folding) = (symbols(alphabet), bits(alphabet), Folding::from(state.fold == 1));
+    let (mut written, mut next) = (vec![], *state);
+    if next.has_bad == 0 {
+        (next.bad_position, next.bad_byte) = (0, 0); // ignored, and answered as zeros
+    }
+    for (&received, taken) in piece.iter().zip(taken(alphabet, folding, piece)) {
+        let code = list.iter().position(|&symbol| symbol == taken);
+        if code.is_none() && next.has_bad == 0 {
+            (next.has_bad, next.bad_position, next.bad_byte) = (1, next.seen, u64::from(received));
+        }
+        next.bad_count += u64::from(code.is_none());
+        next.seen += 1;
+        for bit in (0..width).rev() {
+            next.pending = next.pending << 1 | code.unwrap_or(255) as u64 >> bit & 1;
+            next.pending_bits += 1;
+            if next.pending_bits == 8 {
+                written.push(next.pending as u8);
+                (next.pending_bits, next.pending) = (0, 0);
+            }
+        }
+    }
+    (written, next)
 }
 
 /// The bases from `start` to `end` of a file of which `bytes` are those from `offset` on; other bytes are zero.

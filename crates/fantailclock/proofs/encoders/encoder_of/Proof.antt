@@ -7,6 +7,10 @@ use Rattle.fantailclock.proofs.encoders.encoder_of.Tie as tie
 abbrev number : tie.After-number-of-fold → tie.After-number
 number c = c .before .before .before
 
+-- and the choice's, from where the non-members are known
+abbrev choice : tie.After-bad → tie.After-number-of-fold
+choice c = c .before
+
 number-requires : tie.Need-number-requires
 number-requires c κs = search needs
 
@@ -25,19 +29,19 @@ enum-told c = search needs
 enum-known-first : tie.Need-enum-known-first
 enum-known-first c = search needs
 
-cast-t13 : tie.Need-cast-t13
-cast-t13 c = search needs
+cast-t15 : tie.Need-cast-t15
+cast-t15 c = search needs
 
 returns : tie.Need-returns
 returns c =
-    let fold = c .before .before in
+    let fold = choice (c .before .before) in
     let n = number fold in
     outside-none (n .before .args .state) _ (n .number .ensures) _ (fold .number-of-fold .ensures) (c .enum-told .given .1)
 
 returns-2 : tie.Need-returns-2
 returns-2 c =
     let first = c .before in
-    let fold = first .before .before in
+    let fold = choice (first .before .before) in
     let n = number fold in
     outside-some (n .before .args .state) _ (n .number .ensures) _ (fold .number-of-fold .ensures) _ _ (first .first .given .1)
 
@@ -51,6 +55,6 @@ encoder-of-spec =
     number-of-fold-requires
     enum-told
     enum-known-first
-    cast-t13
+    cast-t15
     returns
     returns-2)

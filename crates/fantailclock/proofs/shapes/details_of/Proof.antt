@@ -25,8 +25,8 @@ enum-told-4 c = search needs
 enum-known-refusal : tie.Need-enum-known-refusal
 enum-known-refusal c = search needs
 
-cast-t8 : tie.Need-cast-t8
-cast-t8 c = search needs
+cast-t9 : tie.Need-cast-t9
+cast-t9 c = search needs
 
 enum-told-5 : tie.Need-enum-told-5
 enum-told-5 c = search needs
@@ -76,7 +76,7 @@ details-of-spec =
     enum-told-3
     enum-told-4
     enum-known-refusal
-    cast-t8
+    cast-t9
     enum-told-5
     enum-known-refusal-2
     enum-told-6

@@ -1,15 +1,20 @@
-use mathlib.Core.Path.{sym, ap, _∙_, subst}
+use mathlib.Core.Path.{sym, ap, ap₂, _∙_, subst}
+use mathlib.Core.List.{[], _∷_}
 use Prim.Native.Nat.{ℕ, _*_, _≤_, _<_}
 use native.Mathlib.Nat.{zero-add}
 use native.Mathlib.Omega.{arith}
 use borrow.Author.Needs.{needs}
 use lib.ListN.{length}
+use Rattle.bits.specs.Tables.{at}
 use Rattle.bits.specs.Packing.{bytesFor}
-use Rattle.alphabet.specs.Questions.{limit}
+use Rattle.alphabet.specs.Questions.{limit, by}
 use Rattle.alphabet.specs.Symbols.{Coding, codingBy}
 use Rattle.alphabet.proofs.Laws.{lawful}
 use Rattle.packing.specs.declared.first.First.{First}
+use Rattle.packing.specs.declared.bad.Bad.{Bad}
+use Rattle.packing.specs.declared.sequence.Encoded.{Encoded}
 use Rattle.packing.specs.declared.sequence.Encoded.the-variants.{Wrote}
+use Rattle.packing.proofs.Search.{first-there, bad-there, none-there}
 use Rattle.packing.proofs.Ends.{product-le, encode-long, encode-short, encode-first}
 use Rattle.packing.proofs.sequence.asked.Statement.{statement}
 use Rattle.packing.proofs.sequence.asked.Tie as tie
@@ -37,6 +42,14 @@ fits c =
     let a = start (near c) .args in
     subst (λ (b : ℕ). bytesFor (length (a .text .now) * b) ≤ a .room) (c .before .bits-per-symbol .ensures) (c .if2 .left)
 
+-- where the first non-member is searched for
+abbrev room : tie.After-find-bad → tie.Else2
+room f = f .before
+
+-- where one is found, and where all are counted
+abbrev counted : tie.After-count-bad → tie.Then3
+counted c = c .before .before .before
+
 returns : tie.Need-returns
 returns c =
     let a = c .before .before .args in
@@ -58,32 +71,45 @@ returns-2 c =
     let short = subst (λ (b : ℕ). a .room < bytesFor (length (a .text .now) * b)) (w .bits-per-symbol .ensures) (c .if2 .taken) in
     encode-short (codingOf (w .before)) (a .text .now) (a .room) (w .before .if1 .left) short
 
-first-from-requires : tie.Need-first-from-requires
-first-from-requires c κs =
-    let s = start (near c) in
-    (s .pre, subst (λ (n : ℕ). n ≤ limit) (sym (zero-add (length (s .args .text .now)))) (near c .if1 .left))
+find-bad-requires : tie.Need-find-bad-requires
+find-bad-requires c κs = start (near c) .pre
 
-enum-known-position : tie.Need-enum-known-position
-enum-known-position c = search needs
+shared-slice-read-t16 : tie.Need-shared-slice-read-t16
+shared-slice-read-t16 c = search needs
+
+sub-count-bad : tie.Need-sub-count-bad
+sub-count-bad c = search needs
+
+part-count-bad-start : tie.Need-part-count-bad-start
+part-count-bad-start c = search needs
+
+part-count-bad-end : tie.Need-part-count-bad-end
+part-count-bad-end c = search needs
+
+count-bad-requires : tie.Need-count-bad-requires
+count-bad-requires c κs = start (near (room (c .before .before .before))) .pre
 
 returns-3 : tie.Need-returns-3
 returns-3 c =
-    let p = c .before in
-    let f = p .before .before in
-    let e = f .before in
+    let t = counted c in
+    let f = t .before in
+    let e = room f in
     let a = start (near e) .args in
-    encode-first (codingOf (near e)) (a .text .now) (a .room) (near e .if1 .left) (fits e) _ (sym (f .first-from .ensures) ∙ p .position .given .1)
-
-enum-told : tie.Need-enum-told
-enum-told c = search needs
+    let i : ℕ = f .find-bad .result in
+    let byte : ℕ = at (a .text .now) i in
+    let first = first-there (codingOf (near e)) (a .text .now) i (f .find-bad .ensures) (t .if3 .taken) 0 in
+    let count = bad-there (codingOf (near e)) (a .text .now) i (f .find-bad .ensures) (omega (arith, t .if3 .taken)) in
+    ap₂ (λ (m n : ℕ). Encoded.Refused (by 5 (m ∷ byte ∷ n ∷ []))) (sym (zero-add i)) (c .count-bad .ensures ∙ count)
+    ∙ encode-first (codingOf (near e)) (a .text .now) (a .room) (near e .if1 .left) (fits e) _ first
 
 returns-4 : tie.Need-returns-4
 returns-4 c =
-    let f = c .before .before in
-    let e = f .before in
+    let f = c .before in
+    let e = room f in
     let a = start (near e) .args in
+    let none = none-there (codingOf (near e)) (a .text .now) (f .find-bad .result) (f .find-bad .ensures) (c .if3 .left) 0 in
     ap Wrote (ap (λ (b : ℕ). bytesFor (length (a .text .now) * b)) (e .before .bits-per-symbol .ensures))
-    ∙ encode-first (codingOf (near e)) (a .text .now) (a .room) (near e .if1 .left) (fits e) First.Nothing (sym (f .first-from .ensures) ∙ c .enum-told .given .1)
+    ∙ encode-first (codingOf (near e)) (a .text .now) (a .room) (near e .if1 .left) (fits e) First.Nothing (sym (ap (λ (b : Bad). b .first) none))
 
 pub asked-spec : {M : Type 1} → statement M
 asked-spec =
@@ -94,8 +120,11 @@ asked-spec =
     mul-count
     add-count
     returns-2
-    first-from-requires
-    enum-known-position
+    find-bad-requires
+    shared-slice-read-t16
+    sub-count-bad
+    part-count-bad-start
+    part-count-bad-end
+    count-bad-requires
     returns-3
-    enum-told
     returns-4)

@@ -4,10 +4,10 @@ use Rattle.replay.proofs.parse.read_numbers.Statement.{statement}
 use Rattle.replay.proofs.parse.read_numbers.Tie as tie
 
 abbrev Inv-loop : tie.InvT-loop
-Inv-loop line at out₀ count₀ next₀ out count next = count ≤ 10
+Inv-loop line at out₀ count₀ next₀ out count next = count ≤ 11
 
 abbrev μ-loop : tie.MeasureT-loop
-μ-loop line at out₀ count₀ next₀ out count next = 10 - count
+μ-loop line at out₀ count₀ next₀ out count next = 11 - count
 
 loop-holds : tie.Need-loop-holds Inv-loop μ-loop
 loop-holds c = search needs

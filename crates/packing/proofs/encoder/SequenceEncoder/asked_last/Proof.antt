@@ -14,6 +14,10 @@ start c = c .before .before
 asked : (c : tie.Else1) → soundEncoder (start c .args .self) ≡ true
 asked c = sym (c .before .is-sound .ensures) ∙ not-false _ (c .if1 .left)
 
+-- where the first non-member is known
+abbrev known : tie.After-first → tie.Else1
+known f = f .before .before .before
+
 is-sound-requires : tie.Need-is-sound-requires
 is-sound-requires c κs = search needs
 
@@ -27,30 +31,30 @@ enum-known-first c = search needs
 
 returns-2 : tie.Need-returns-2
 returns-2 c =
-    let e = c .before .before .before in
+    let e = known (c .before) in
     let a = start e .args in
     finalize-bad (a .self) (a .room) (asked e) _ _ (c .before .first .given .1)
 
 enum-told : tie.Need-enum-told
 enum-told c = search needs
 
-cast-count : tie.Need-cast-count
-cast-count c = search needs
+cast-last : tie.Need-cast-last
+cast-last c = search needs
 
-add-count : tie.Need-add-count
-add-count c = search needs
+add-last : tie.Need-add-last
+add-last c = search needs
 
 returns-3 : tie.Need-returns-3
 returns-3 c =
     let t = c .before .before in
-    let e = t .before .before in
+    let e = t .before .before .before in
     let a = start e .args in
     finalize-short (a .self) (a .room) (asked e) (t .enum-told .given .1) (c .if2 .taken)
 
 returns-4 : tie.Need-returns-4
 returns-4 c =
     let t = c .before .before in
-    let e = t .before .before in
+    let e = t .before .before .before in
     let a = start e .args in
     finalize-fine (a .self) (a .room) (asked e) (t .enum-told .given .1) (c .if2 .left)
 
@@ -63,7 +67,7 @@ asked-last-spec =
     enum-known-first
     returns-2
     enum-told
-    cast-count
-    add-count
+    cast-last
+    add-last
     returns-3
     returns-4)

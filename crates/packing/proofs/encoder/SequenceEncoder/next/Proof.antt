@@ -1,12 +1,16 @@
 use mathlib.Core.Path.{sym, ap, _∙_, subst}
+use mathlib.Core.Bool.{not}
 use Prim.Native.Nat.{ℕ, _+_, _*_, _%_, _≤_}
 use native.Mathlib.Omega.{arith}
 use borrow.Author.Needs.{needs}
 use lib.ListN.{length}
+use Rattle.bits.proofs.Counted.{many-le}
 use Rattle.alphabet.specs.Questions.{limit}
+use Rattle.packing.specs.declared.bad.Bad.{Bad}
+use Rattle.packing.specs.Encode.{bothBad, packsBy}
 use Rattle.packing.specs.Run.{Pends, leftOver, looked}
 use Rattle.packing.proofs.Digits.{left-digits}
-use Rattle.packing.proofs.Ends.{product-le, pends, next-state}
+use Rattle.packing.proofs.Ends.{product-le, sound, few-bad, pends, next-state}
 use Rattle.packing.proofs.encoder.SequenceEncoder.next.Statement.{statement}
 use Rattle.packing.proofs.encoder.SequenceEncoder.next.Tie as tie
 
@@ -26,9 +30,12 @@ before w =
 product-here : (w : tie.After-bits-per-symbol) → length (start w .args .piece .now) * w .bits-per-symbol .result ≤ limit * 8
 product-here w = product-le (length (start w .args .piece .now)) (w .bits-per-symbol .result) (before w .bounded) (before w .narrow)
 
--- where the state is made
+-- where the bits left over are known, and what is bad in the piece
 abbrev width : tie.After-left-over → tie.After-bits-per-symbol
 width c = c .before .before .before
+
+abbrev left : tie.After-bad-from → tie.After-left-over
+left f = f .before .before
 
 bits-per-symbol-requires : tie.Need-bits-per-symbol-requires
 bits-per-symbol-requires c κs = search needs
@@ -54,23 +61,34 @@ cast-left c = search needs
 add-after : tie.Need-add-after
 add-after c = search needs
 
-first-of-requires : tie.Need-first-of-requires
-first-of-requires c κs = search needs
+bad-from-requires : tie.Need-bad-from-requires
+bad-from-requires c κs = search needs
+
+-- no more non-members than symbols, before the piece and in it
+both-bad-requires : tie.Need-both-bad-requires
+both-bad-requires c κs =
+    let s = start (width (left c)) in
+    let a = s .args in
+    let A = packsBy (a .self) in
+    let some = subst (λ (b : Bad). b .count ≤ length (a .piece .now)) (sym (c .bad-from .ensures)) (many-le (λ v. not (A .member v)) (a .piece .now)) in
+    omega (arith, some, few-bad A (a .self .seen) (a .self .bad) (sound (a .self) (s .pre .1 .0) .non-members), s .pre .1 .1)
 
 returns : tie.Need-returns
 returns c =
-    let l = c .before in
+    let f = c .before in
+    let l = left f in
     let w = width l in
     let s = start w in
     let a = s .args in
     let n : ℕ = length (a .piece .now) in
     let e = w .bits-per-symbol .ensures in
-    let left = l .left-over in
+    let over = l .left-over in
     let bytes : (i : ℕ) → _ = λ i. w .before .shared-slice-known .given i .fits in
-    let pending = left .ensures
+    let pending = over .ensures
     ∙ ap (λ (b : ℕ). leftOver b (a .self .bits) (a .self .pending) (looked (a .table .now) (a .piece .now))) e
     ∙ left-digits (a .self .fold) (a .self .alphabet) (a .table .now) (a .piece .now) (s .pre .0) bytes (a .self .bits) (a .self .pending) in
-    next-state (a .self) (a .piece .now) _ (left .result) (c .first-of .result) (ap (λ (b : ℕ). (a .self .bits + n * b) % 8) e) pending (c .first-of .ensures)
+    next-state (a .self) (a .piece .now) _ (over .result) (c .both-bad .result) (ap (λ (b : ℕ). (a .self .bits + n * b) % 8) e) pending
+    (c .both-bad .ensures ∙ ap (bothBad (a .self .bad)) (f .bad-from .ensures))
 
 pub next-spec : {M : Type 1} → statement M
 next-spec =
@@ -84,5 +102,6 @@ next-spec =
     add-left
     cast-left
     add-after
-    first-of-requires
+    bad-from-requires
+    both-bad-requires
     returns)

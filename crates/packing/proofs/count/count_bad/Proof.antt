@@ -1,0 +1,45 @@
+use mathlib.Core.Path.{_∙_, subst}
+use Prim.Native.Nat.{ℕ, _≤_, _<_}
+use borrow.Author.Needs.{needs}
+use Rattle.bits.specs.Tables.{Bytes}
+use Rattle.alphabet.specs.Symbols.{coding}
+use Rattle.packing.proofs.Search.{usual, counted, plain-bad}
+use Rattle.packing.proofs.count.count_bad.Statement.{statement}
+use Rattle.packing.proofs.count.count_bad.Tie as tie
+
+-- the entry, and the text's bytes
+abbrev start : tie.After-bits-per-symbol → tie.Start
+start w = w .before .before
+
+bytes : (w : tie.After-bits-per-symbol) → Bytes (start w .args .text .now)
+bytes w i = w .before .shared-slice-known .given i .fits
+
+-- past the question the alphabet is bit-packed
+narrow : (c : tie.Else1) → coding (start (c .before) .args .kind) .width < 8
+narrow c = subst (λ (w : ℕ). w < 8) (c .before .bits-per-symbol .ensures) (c .if1 .left)
+
+bits-per-symbol-requires : tie.Need-bits-per-symbol-requires
+bits-per-symbol-requires c κs = search needs
+
+returns : tie.Need-returns
+returns c =
+    let w = c .before in
+    let s = start w in
+    let a = s .args in
+    let wide = subst (λ (n : ℕ). 8 ≤ n) (w .bits-per-symbol .ensures) (c .if1 .taken) in
+    plain-bad (a .fold) (a .kind) (a .table .now) (s .pre) (a .text .now) (bytes w) wide
+
+count-invalid-requires : tie.Need-count-invalid-requires
+count-invalid-requires c κs = let s = start (c .before) in usual (s .args .fold) (s .args .kind) (s .args .table .now) (s .pre) (narrow c)
+
+returns-2 : tie.Need-returns-2
+returns-2 c =
+    let e = c .before in
+    let s = start (e .before) in
+    let a = s .args in
+    c .count-invalid .ensures ∙ counted (a .fold) (a .kind) (a .table .now) (s .pre) (a .text .now) (bytes (e .before)) (narrow e)
+
+pub count-bad-spec : {M : Type 1} → statement M
+count-bad-spec =
+    tie.close
+    (tie.spec bits-per-symbol-requires returns count-invalid-requires returns-2)
