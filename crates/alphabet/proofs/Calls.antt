@@ -9,7 +9,7 @@ use borrow.Author.Tests.{le-leb, leb-true, leb-false, eqb-true}
 use lib.Count.{trailingZeros}
 use lib.Dec.{leb, eqb, lit≤}
 use lib.ListN.{length, getD, take, List·getD-eq-default}
-use Rattle.alphabet.specs.Symbols.{coding, folded, folds, foldedEntries, codingBy}
+use Rattle.alphabet.specs.Symbols.{canon, folded, folds, foldedEntries, codingBy}
 use Rattle.bits.specs.Tables.{at, tabulate, Bytes, bytesOf}
 use Rattle.bits.proofs.Tabulated.{is-tabulate}
 use Rattle.bits.proofs.Computed.{both-true}
@@ -318,11 +318,11 @@ guess-members fold text bytes = holds-each fold (guessOf fold text) text (guess-
 
 -- ---- tables
 
--- an alphabet's table, folded by the choice where it has an effect, has the codes that texts are packed by
-pub codes-folded : (fold effect : Bool) (k : AlphabetType) (table : List ℕ) {after : List ℕ} → table ≡ tabulate 256 (coding k .code) → effect ≡ (fold && folds k)
-    → after ≡ foldedEntries effect table → after ≡ tabulate 256 (codingBy fold k .code)
-codes-folded fold effect k table t e q =
-    q ∙ ap (λ (f : Bool). foldedEntries f table) e ∙ entries-folded (fold && folds k) (coding k .code) table t
+-- a table of what bytes have in an alphabet, folded by the choice where it has an effect: each byte has what the byte that it stands for has
+pub table-folded : (fold effect : Bool) (k : AlphabetType) (entry : ℕ → ℕ) (table : List ℕ) {after : List ℕ} → table ≡ tabulate 256 entry → effect ≡ (fold && folds k)
+    → after ≡ foldedEntries effect table → after ≡ tabulate 256 (λ v. entry (canon (fold && folds k) v))
+table-folded fold effect k entry table t e q =
+    q ∙ ap (λ (f : Bool). foldedEntries f table) e ∙ entries-folded (fold && folds k) entry table t
 
 -- ---- an answer is one of its cases
 

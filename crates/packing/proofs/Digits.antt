@@ -4,12 +4,12 @@ use mathlib.Core.Bool.{Bool, true, false, cond, true≢false}
 use mathlib.Core.List.{List, [], _∷_, map}
 use mathlib.Core.Logic.{_⊎_}
 use Prim.Native.Nat.{ℕ, zero, suc, _+_, _-_, _*_, _/_, _%_, _^_, _≤_, _<_}
-use native.Mathlib.Nat.{mod-eq-of-lt, le-of-suc-le-suc, not-suc-le-zero}
+use native.Mathlib.Nat.{mod-eq-of-lt, mul-add-mod-self-right, le-of-suc-le-suc, not-suc-le-zero}
 use native.Mathlib.Omega.{arith}
 use native.Mathlib.Decide.{decLt}
 use lib.Dec.{eqb, ltb, eqb→eq}
 use lib.ListN.{length, length-map, List·getD-eq-default}
-use lib.Pow.{pow-pos}
+use lib.Pow.{pow-pos, pow-add}
 use Rattle.bits.specs.Tables.{tabulate, at, Bytes}
 use Rattle.bits.specs.Streams.{bitAt, word, after, cut}
 use Rattle.bits.specs.Packing.{bytesFor, pack, atHand}
@@ -22,7 +22,8 @@ use Rattle.alphabet.specs.declared.kind.AlphabetType.{AlphabetType}
 use Rattle.alphabet.specs.Symbols.{Coding, codingBy}
 use Rattle.alphabet.proofs.Laws.{lawful, Packed, Plain, shape}
 use Rattle.packing.specs.Encode.{digitOf, digitsOf, packing}
-use Rattle.packing.specs.Run.{ran, leftOver, looked}
+use Rattle.packing.specs.Run.{entryOf, ran, leftOver, looked}
+use Rattle.packing.proofs.Entries.{narrow, entry-plain, entry-some, entry-none}
 
 -- the low b bits of FF are b ones
 pub ones-low : (b : ℕ) → b ≤ 8 → 0xff % 2 ^ b ≡ 2 ^ b - 1
@@ -37,21 +38,32 @@ digit-lt fold k v = go (codingBy fold k .member v) refl
     go true e = lawful fold k .fits v e
     go false e = omega (arith, pow-pos (codingBy fold k .width))
 
-pub digit-code : (fold : Bool) (k : AlphabetType) (v : ℕ) → v < 256 → codingBy fold k .code v % 2 ^ codingBy fold k .width ≡ digitOf (codingBy fold k) v
+-- the mark is above a packed alphabet's codes
+mark-low : (c b : ℕ) → b ≤ 5 → (c + 0x40) % 2 ^ b ≡ c % 2 ^ b
+mark-low c b h =
+    let parts : 6 ≡ 6 - b + b = omega arith in
+    let mark : 0x40 ≡ 2 ^ (6 - b) * 2 ^ b = ap (λ (n : ℕ). 2 ^ n) parts ∙ pow-add 2 (6 - b) b in
+    let turned : c + 0x40 ≡ 0x40 + c = omega arith in
+    ap (λ (x : ℕ). x % 2 ^ b) turned ∙ ap (λ (x : ℕ). (x + c) % 2 ^ b) mark ∙ mul-add-mod-self-right (2 ^ (6 - b)) (2 ^ b) c
+
+pub entry-digit : (fold : Bool) (k : AlphabetType) (v : ℕ) → v < 256 → entryOf (codingBy fold k) v % 2 ^ codingBy fold k .width ≡ digitOf (codingBy fold k) v
 unfolding digitOf
-digit-code fold k v h = go (codingBy fold k .member v) refl
+entry-digit fold k v h = go (codingBy fold k .member v) refl (decLt (codingBy fold k .width) 8)
   where
-    Goal : Type 0
-    Goal = codingBy fold k .code v % 2 ^ codingBy fold k .width ≡ 2 ^ codingBy fold k .width - 1
+    low : ℕ → ℕ
+    low x = x % 2 ^ codingBy fold k .width
 
-    none : codingBy fold k .member v ≡ false → Packed (codingBy fold k) ⊎ Plain (codingBy fold k) → Goal
-    none e (_⊎_.inl packed) =
-        ap (λ (c : ℕ). c % 2 ^ codingBy fold k .width) (packed .none v e) ∙ ones-low (codingBy fold k .width) (lawful fold k .narrow)
-    none e (_⊎_.inr plain) = absurd (let z : _≡_ {A = Bool} true false = sym (plain .all v h) ∙ e in true≢false z)
+    plain-only : (codingBy fold k .width < 8 → ⊥) → Packed (codingBy fold k) ⊎ Plain (codingBy fold k) → codingBy fold k .member v ≡ true
+    plain-only n (_⊎_.inl packed) = absurd (n (omega (arith, packed .five)))
+    plain-only n (_⊎_.inr plain) = plain .all v h
 
-    go : (m : Bool) → codingBy fold k .member v ≡ m → codingBy fold k .code v % 2 ^ codingBy fold k .width ≡ cond m (codingBy fold k .code v) (2 ^ codingBy fold k .width - 1)
-    go true e = mod-eq-of-lt (lawful fold k .fits v e)
-    go false e = none e (shape fold k)
+    go : (m : Bool) → codingBy fold k .member v ≡ m → Dec (codingBy fold k .width < 8)
+        → entryOf (codingBy fold k) v % 2 ^ codingBy fold k .width ≡ cond m (codingBy fold k .code v) (2 ^ codingBy fold k .width - 1)
+    go true e (yes l) =
+        ap low (entry-some fold k l v e) ∙ mark-low (codingBy fold k .code v) (codingBy fold k .width) (narrow fold k l .five) ∙ mod-eq-of-lt (lawful fold k .fits v e)
+    go false e (yes l) = ap low (entry-none fold k l v e) ∙ ones-low (codingBy fold k .width) (lawful fold k .narrow)
+    go true e (no n) = ap low (entry-plain fold k (omega arith) v) ∙ mod-eq-of-lt (lawful fold k .fits v e)
+    go false e (no n) = absurd (let z : _≡_ {A = Bool} true false = sym (plain-only n (shape fold k)) ∙ e in true≢false z)
 
 -- entry i of a list that was mapped
 pub at-map : (f : ℕ → ℕ) (xs : List ℕ) (i : ℕ) → i < length xs → at (map f xs) i ≡ f (at xs i)
@@ -66,7 +78,7 @@ looked-digit b p a table text i h =
     ap (λ (x : ℕ). x % 2 ^ b) (sym (at-map (at table) text i h)) ∙ sym (hand-digit p a b (looked table text) i)
 
 -- the digits of a text by an alphabet's encoding table have the bits of its digits by the definition
-module _ (fold : Bool) (k : AlphabetType) (table text : List ℕ) (t : table ≡ tabulate 256 (codingBy fold k .code)) (bytes : Bytes text) where
+module _ (fold : Bool) (k : AlphabetType) (table text : List ℕ) (t : table ≡ tabulate 256 (entryOf (codingBy fold k))) (bytes : Bytes text) where
   abbrev A : Coding
   A = codingBy fold k
 
@@ -78,10 +90,10 @@ module _ (fold : Bool) (k : AlphabetType) (table text : List ℕ) (t : table ≡
     where
       go : Dec (j < length text) → at (looked table text) j % 2 ^ codingBy fold k .width ≡ at (digitsOf (codingBy fold k) text) j % 2 ^ codingBy fold k .width
       go (yes h) =
-          let entry : at table (at text j) ≡ A .code (at text j) =
-          ap (λ (l : List ℕ). at l (at text j)) t ∙ getD-tabulate 256 (A .code) (at text j) 0 (bytes j) in
+          let entry : at table (at text j) ≡ entryOf A (at text j) =
+          ap (λ (l : List ℕ). at l (at text j)) t ∙ getD-tabulate 256 (entryOf A) (at text j) 0 (bytes j) in
           ap (λ (x : ℕ). x % 2 ^ b) (at-map (at table) text j h ∙ entry)
-          ∙ digit-code fold k (at text j) (bytes j)
+          ∙ entry-digit fold k (at text j) (bytes j)
           ∙ sym (mod-eq-of-lt (digit-lt fold k (at text j)))
           ∙ ap (λ (x : ℕ). x % 2 ^ b) (sym (at-map (digitOf A) text j h))
       go (no h) =

@@ -10,7 +10,6 @@ use native.Mathlib.Omega.{arith}
 use borrow.Author.Tests.{lt-leb, eq-eqb, ne-eqb}
 use lib.Dec.{leb, eqb, eqb·zero-suc, eqb·suc-suc}
 use lib.ListN.{length, take, drop}
-use lib.Pow.{pow-mono}
 use Rattle.bits.specs.Tables.{tabulate, at, Bytes}
 use Rattle.bits.specs.Counts.{howMany}
 use Rattle.bits.proofs.Tabulated.{getD-tabulate}
@@ -21,7 +20,8 @@ use Rattle.alphabet.specs.Bases.{base, Bases, Run}
 use Rattle.alphabet.proofs.Laws.{Packed, Plain, lawful, shape, base-member, length-folded, at-folded}
 use Rattle.packing.specs.declared.first.First.{First}
 use Rattle.packing.specs.Encode.{membersAhead, firstFrom, badIn, badFrom}
-use Rattle.packing.specs.Run.{Passed, Searched, topBit, Usual}
+use Rattle.packing.specs.Run.{entryOf, Passed, Searched, topBit, Usual}
+use Rattle.packing.proofs.Entries.{entry-small, entry-none}
 
 -- n bytes more without the entry FF
 pub passed-more : (table text : List ℕ) (i n : ℕ) → Passed table text i → ((j : ℕ) → j < n → at table (at text (i + j)) ≡ 0xff → ⊥) → Passed table text (i + n)
@@ -121,54 +121,49 @@ module _ (A : Coding) where
         (sym (many-none (λ v. not (A .member v)) text (λ j l. ap not (members j l))))
 
 -- the same by a search of the encoding table
-module _ (fold : Bool) (k : AlphabetType) (table : List ℕ) (t : table ≡ tabulate 256 (codingBy fold k .code)) where
-  entry-code : (x : ℕ) → x < 256 → at table x ≡ codingBy fold k .code x
-  entry-code x h = ap (λ (l : List ℕ). at l x) t ∙ getD-tabulate 256 (codingBy fold k .code) x 0 h
+module _ (fold : Bool) (k : AlphabetType) (table : List ℕ) (t : table ≡ tabulate 256 (entryOf (codingBy fold k))) where
+  entry-is : (x : ℕ) → x < 256 → at table x ≡ entryOf (codingBy fold k) x
+  entry-is x h = ap (λ (l : List ℕ). at l x) t ∙ getD-tabulate 256 (entryOf (codingBy fold k)) x 0 h
 
-  is-member : Packed (codingBy fold k) → (x : ℕ) → x < 256 → (at table x ≡ 0xff → ⊥) → codingBy fold k .member x ≡ true
-  is-member packed x h n = packed .told x ∙ ap not (ne-eqb (codingBy fold k .code x) 0xff (λ e. n (entry-code x h ∙ e)))
+  module _ (h : codingBy fold k .width < 8) where
+    is-member : (x : ℕ) → x < 256 → (at table x ≡ 0xff → ⊥) → codingBy fold k .member x ≡ true
+    is-member x l n = go (codingBy fold k .member x) refl
+      where
+        go : (m : Bool) → codingBy fold k .member x ≡ m → m ≡ true
+        go true e = refl
+        go false e = absurd (n (entry-is x l ∙ entry-none fold k h x e))
 
-  no-member : Packed (codingBy fold k) → (x : ℕ) → x < 256 → at table x ≡ 0xff → codingBy fold k .member x ≡ false
-  no-member packed x h e = packed .told x ∙ ap not (eq-eqb (codingBy fold k .code x) 0xff (sym (entry-code x h) ∙ e))
+    no-member : (x : ℕ) → x < 256 → at table x ≡ 0xff → codingBy fold k .member x ≡ false
+    no-member x l q = go (codingBy fold k .member x) refl
+      where
+        go : (m : Bool) → codingBy fold k .member x ≡ m → m ≡ false
+        go true e = absurd (omega (arith, entry-small fold k h x e, entry-is x l, q))
+        go false e = refl
 
-  -- a packed alphabet is narrower than a byte
-  narrow : codingBy fold k .width < 8 → Packed (codingBy fold k) ⊎ Plain (codingBy fold k) → Packed (codingBy fold k)
-  narrow h (_⊎_.inl packed) = packed
-  narrow h (_⊎_.inr plain) = absurd (omega (arith, plain .eight))
+    -- a byte that stands for a base is a member of every alphabet
+    pub usual : Usual fold table
+    usual =
+        record {
+          entry = λ x b. let m = base-member fold k x b in omega (arith, entry-is x (lawful fold k .byte x m), entry-small fold k h x m);
+        }
 
-  -- its codes have at most five bits
-  code-small : Packed (codingBy fold k) → (x : ℕ) → codingBy fold k .member x ≡ true → codingBy fold k .code x < 128
-  code-small packed x m = omega (arith, lawful fold k .fits x m, pow-mono {i = codingBy fold k .width} {j = 5} (packed .five))
-
-  -- a byte that stands for a base is a member of every alphabet
-  pub usual : codingBy fold k .width < 8 → Usual fold table
-  usual h =
-      record {
-        entry = λ x b.
-            let m = base-member fold k x b in
-            subst (λ (c : ℕ). c < 128) (sym (entry-code x (lawful fold k .byte x m))) (code-small (narrow h (shape fold k)) x m);
-      }
-
-  -- and the entries with the top bit are those of the non-members
-  stranger : Packed (codingBy fold k) → (x : ℕ) → x < 256 → topBit table x ≡ not (codingBy fold k .member x)
-  stranger packed x h = ap (leb 128) (entry-code x h) ∙ go (codingBy fold k .member x) refl
-    where
-      go : (m : Bool) → codingBy fold k .member x ≡ m → leb 128 (codingBy fold k .code x) ≡ not m
-      go true e = lt-leb 128 (codingBy fold k .code x) (code-small packed x e)
-      go false e = ap (leb 128) (packed .none x e)
+    -- and the entries with the top bit are those of the non-members
+    stranger : (x : ℕ) → x < 256 → topBit table x ≡ not (codingBy fold k .member x)
+    stranger x l = ap (leb 128) (entry-is x l) ∙ go (codingBy fold k .member x) refl
+      where
+        go : (m : Bool) → codingBy fold k .member x ≡ m → leb 128 (entryOf (codingBy fold k) x) ≡ not m
+        go true e = lt-leb 128 (entryOf (codingBy fold k) x) (entry-small fold k h x e)
+        go false e = ap (leb 128) (entry-none fold k h x e)
 
   module _ (text : List ℕ) (bytes : Bytes text) where
     -- what is found is the first non-member
     pub found : (r : ℕ) → codingBy fold k .width < 8 → Searched table text (length text) r → r ≡ membersAhead (codingBy fold k) text
     found r h s =
-        let packed : Packed (codingBy fold k) = narrow h (shape fold k) in
-        ahead-is (codingBy fold k) text r (s .within) (λ j m. is-member packed (at text j) (bytes j) (s .passed j m))
-        (λ l. no-member packed (at text r) (bytes r) (s .stopped l))
+        ahead-is (codingBy fold k) text r (s .within) (λ j m. is-member h (at text j) (bytes j) (s .passed j m)) (λ l. no-member h (at text r) (bytes r) (s .stopped l))
 
     -- the entries with the top bit are those of all its non-members
     pub counted : codingBy fold k .width < 8 → howMany (topBit table) text ≡ badIn (codingBy fold k) text
-    counted h =
-        many-same (topBit table) (λ v. not (codingBy fold k .member v)) text (λ j m. stranger (narrow h (shape fold k)) (at text j) (bytes j))
+    counted h = many-same (topBit table) (λ v. not (codingBy fold k .member v)) text (λ j m. stranger h (at text j) (bytes j))
 
     -- a plain alphabet holds every byte
     plain-members : 8 ≤ codingBy fold k .width → (j : ℕ) → codingBy fold k .member (at text j) ≡ true

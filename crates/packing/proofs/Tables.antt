@@ -5,6 +5,7 @@ use mathlib.Core.List.{List, _++_}
 use mathlib.Core.Logic.{_⊎_, inl, inr}
 use Prim.Native.Nat.{ℕ, _+_, _≤_, _<_}
 use native.Mathlib.Omega.{arith}
+use lib.Bits.{bitOr}
 use lib.ListN.{length, take, drop, replicate, length-replicate}
 use lib.Seq.{take-at, drop-at, drop-drop}
 use Rattle.bits.specs.Tables.{tabulate, at}
@@ -13,6 +14,8 @@ use Rattle.bits.proofs.Tabulated.{length-tabulate, getD-tabulate, tabulate-ext,
 use Rattle.alphabet.specs.declared.kind.AlphabetType.{AlphabetType}
 use Rattle.alphabet.specs.Symbols.{coding}
 use Rattle.alphabet.proofs.Laws.{Packed, Plain, shape, row-only}
+use Rattle.packing.specs.Run.{entryOf}
+use Rattle.packing.proofs.Entries.{entry-marked, entry-plain}
 
 -- a table that starts as FF has a place for every byte
 pub starts-long : (table : List ℕ) → table ≡ replicate 256 0xff → length table ≡ 256
@@ -39,19 +42,23 @@ put-between f g k m n before behind =
     ∙ ap₂ (λ (a b : List ℕ). a ++ (row ++ b)) (tabulate-ext k g f before) (tabulate-ext n (λ j. g (k + (m + j))) (λ j. f (k + (m + j))) (λ j h. behind (k + (m + j)) (omega arith)))
     ∙ sym (parts f)
 
--- a packed alphabet's row, in a table that starts as FF
+-- a packed alphabet's row, with the marks, in a table that starts as FF
 pub row-laid : (k : AlphabetType) (row table : List ℕ) → coding k .width < 8 → row ≡ tabulate 64 (λ j. coding k .code (0x20 + j)) → table ≡ replicate 256 0xff
-    → putAt 0x20 (tabulate 64 (at row)) table ≡ tabulate 256 (coding k .code)
-row-laid k row table narrow r t =
+    → putAt 0x20 (tabulate 64 (λ j. bitOr (at row j) 0x40)) table ≡ tabulate 256 (entryOf (coding k))
+row-laid k row table h r t =
     let f : ℕ → ℕ = λ j. coding k .code (0x20 + j) in
-    let same : tabulate 64 (at row) ≡ tabulate 64 f =
-    tabulate-ext 64 (at row) f (λ j h. ap (λ (l : List ℕ). at l j) r ∙ getD-tabulate 64 f j 0 h) in
+    let code : (j : ℕ) → j < 64 → at row j ≡ f j = λ j l. ap (λ (x : List ℕ). at x j) r ∙ getD-tabulate 64 f j 0 l in
+    let same : tabulate 64 (λ j. bitOr (at row j) 0x40) ≡ tabulate 64 (λ j. entryOf (coding k) (0x20 + j)) =
+    tabulate-ext 64 (λ j. bitOr (at row j) 0x40) (λ j. entryOf (coding k) (0x20 + j))
+    (λ j l. ap (λ (c : ℕ). bitOr c 0x40) (code j l) ∙ entry-marked false k h (0x20 + j)) in
+    let other : (v : ℕ) → (v < 0x20) ⊎ (0x60 ≤ v) → 0xff ≡ entryOf (coding k) v =
+    λ v l. sym (ap (λ (c : ℕ). bitOr c 0x40) (row-only k h v l)) ∙ entry-marked false k h v in
     ap₂ (putAt 0x20) same (t ∙ replicate-tabulate 256 0xff)
-    ∙ put-between (coding k .code) (λ v. 0xff) 0x20 64 160 (λ v h. sym (row-only k narrow v (inl h))) (λ v h. sym (row-only k narrow v (inr h)))
+    ∙ put-between (entryOf (coding k)) (λ v. 0xff) 0x20 64 160 (λ v l. other v (inl l)) (λ v l. other v (inr l))
 
 -- a plain alphabet's bytes are their own codes
-pub bytes-laid : (k : AlphabetType) → 8 ≤ coding k .width → tabulate 256 (λ v. v) ≡ tabulate 256 (coding k .code)
-bytes-laid k wide = tabulate-ext 256 (λ v. v) (coding k .code) (λ v h. go v (shape false k))
+pub bytes-laid : (k : AlphabetType) → 8 ≤ coding k .width → tabulate 256 (λ v. v) ≡ tabulate 256 (entryOf (coding k))
+bytes-laid k wide = tabulate-ext 256 (λ v. v) (entryOf (coding k)) (λ v h. go v (shape false k) ∙ sym (entry-plain false k wide v))
   where
     go : (v : ℕ) → Packed (coding k) ⊎ Plain (coding k) → v ≡ coding k .code v
     go v (inl packed) = absurd (omega (arith, packed .five))

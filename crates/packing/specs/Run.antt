@@ -2,16 +2,16 @@
 -- contract between them and the loops, which know a table and no alphabet. Of request A1 the search alone knows: which bytes stand for bases goes by the choice.
 use Prim.Native.Nat.{ℕ, _+_, _*_, _/_, _%_, _^_, _≤_, _<_}
 use mathlib.Core.Path.{_≡_}
-use mathlib.Core.Bool.{Bool, true}
+use mathlib.Core.Bool.{Bool, true, cond}
 use mathlib.Core.List.{List, map}
-use lib.Dec.{leb}
+use lib.Dec.{leb, ltb}
 use lib.ListN.{length}
 use Rattle.bits.specs.Tables.{at}
 use Rattle.bits.specs.Streams.{word, cut}
 use Rattle.bits.specs.Packing.{atHand}
 use Rattle.bits.specs.Memory.{front}
 use Rattle.alphabet.specs.Questions.{limit}
-use Rattle.alphabet.specs.Symbols.{canon}
+use Rattle.alphabet.specs.Symbols.{Coding, canon}
 use Rattle.alphabet.specs.Bases.{base}
 
 -- p bits of value a pend, and n digits of b bits come behind them
@@ -26,6 +26,10 @@ pub record Pends (b p a n : ℕ) : Type 0 where
 pub record Ready (b p a n room : ℕ) : Type 0 where
   pub pends : Pends b p a n
   pub fits : (p + n * b) / 8 ≤ room
+
+-- a byte's entry in a call's encoding table: in a packed alphabet a member's code, and beside it the bit 40, and FF for another byte; in a plain one its code
+unfoldable pub entryOf : Coding → ℕ → ℕ
+entryOf A v = cond (ltb (A .width) 8) (cond (A .member v) (A .code v + 0x40) 0xff) (A .code v)
 
 -- a text's entries in a table
 abbrev pub looked : List ℕ → List ℕ → List ℕ

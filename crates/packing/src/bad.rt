@@ -10,6 +10,7 @@ ghost use Rattle.bits.specs.Tables.{tabulate};
 ghost use Rattle.alphabet.specs.Symbols.{codingBy};
 ghost use Rattle.alphabet.specs.Questions.{limit};
 ghost use Rattle.packing.specs.Encode.{badFrom, orFirst, bothBad};
+ghost use Rattle.packing.specs.Run.{entryOf};
 
 // The first non-member, where there is one, and how many there are. Each is a field by itself, so that a host's numbers can be handed in as they are, and
 // question 4 asks whether they go together.
@@ -21,7 +22,7 @@ pub struct Bad {
 // The non-members of a text whose first byte has position `from`, by the alphabet's encoding table. They are counted from the first one on, so that a text
 // without one is searched once and no more.
 pub fn bad_from(kind: AlphabetType, fold: bool, table: &[u8; 256], from: usize, text: &[u8]) -> Bad
-    requires { ⌜ (now table ≡ tabulate 256 (codingBy fold kind .code)) × (from + length (now text) ≤ limit) ⌝ }
+    requires { ⌜ (now table ≡ tabulate 256 (entryOf (codingBy fold kind))) × (from + length (now text) ≤ limit) ⌝ }
     ensures { λ r. ⌜ r ≡ badFrom (codingBy fold kind) from (now (text .entry)) ⌝ }
 {
     let i = find_bad(kind, fold, table, text);

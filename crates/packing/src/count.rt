@@ -10,7 +10,7 @@ ghost use Rattle.bits.specs.Tables.{tabulate};
 ghost use Rattle.bits.specs.Counts.{howMany};
 ghost use Rattle.alphabet.specs.Symbols.{codingBy};
 ghost use Rattle.packing.specs.Encode.{badIn};
-ghost use Rattle.packing.specs.Run.{topBit, Usual};
+ghost use Rattle.packing.specs.Run.{entryOf, topBit, Usual};
 
 // The bytes whose entry in a table has the top bit, counted a byte at a time. There is no branch in it, so that a text of nothing else is as fast as any.
 fn count_each(table: &[u8; 256], text: &[u8]) -> usize
@@ -51,7 +51,7 @@ fn count_invalid(fold: bool, table: &[u8; 256], text: &[u8]) -> usize
 // How many bytes of a text are no members, by the alphabet's encoding table. Ascii holds every byte, and FF is a code there. It is called where a non-member was
 // found and nowhere else, from several places, so that it stays a function by itself, and a text without one does not pay for the registers that it needs.
 pub fn count_bad(kind: AlphabetType, fold: bool, table: &[u8; 256], text: &[u8]) -> usize
-    requires { ⌜ now table ≡ tabulate 256 (codingBy fold kind .code) ⌝ }
+    requires { ⌜ now table ≡ tabulate 256 (entryOf (codingBy fold kind)) ⌝ }
     ensures { λ r. ⌜ r ≡ badIn (codingBy fold kind) (now (text .entry)) ⌝ }
 {
     if 8 <= kind.bits_per_symbol() {

@@ -24,6 +24,7 @@ ghost use lib.ListN.{length};
 ghost use Rattle.bits.specs.Tables.{tabulate};
 ghost use Rattle.alphabet.specs.Questions.{limit};
 ghost use Rattle.packing.specs.Encode.{packsBy, soundBad, soundEncoder, startEncoderAt, updated, updateAt, updateMemory, finalizeAt, finalizeMemory};
+ghost use Rattle.packing.specs.Run.{entryOf};
 ghost use Rattle.alphabet.specs.Symbols.{codingBy};
 
 // The state between pieces: `seen` symbols so far, of which `bits` bits, of value `pending`, fill no byte yet; the non-members among them. Whether lowercase
@@ -123,7 +124,7 @@ impl SequenceEncoder {
     // The state after an accepted piece. A non-member counts as a symbol of b ones, and packing goes on; the first one's position and how many there are, over all
     // accepted pieces, are kept for `finalize`.
     fn next(self, table: &[u8; 256], piece: &[u8]) -> SequenceEncoder
-        requires { ⌜ (now table ≡ tabulate 256 (packsBy self .code)) × ((soundEncoder self ≡ true) × (self .seen + length (now piece) ≤ limit)) ⌝ }
+        requires { ⌜ (now table ≡ tabulate 256 (entryOf (packsBy self))) × ((soundEncoder self ≡ true) × (self .seen + length (now piece) ≤ limit)) ⌝ }
         ensures { λ r. ⌜ r ≡ updated self (now (piece .entry)) ⌝ }
     {
         let kind = self.alphabet;
@@ -148,7 +149,7 @@ impl SequenceEncoder {
 
     // The answer to a piece and memory of `room` bytes: the questions in their order, and nothing written. The table is the state's.
     fn asked(self, table: &[u8; 256], piece: &[u8], room: usize) -> Updated
-        requires { ⌜ now table ≡ tabulate 256 (packsBy self .code) ⌝ }
+        requires { ⌜ now table ≡ tabulate 256 (entryOf (packsBy self)) ⌝ }
         ensures { λ r. ⌜ r ≡ updateAt self (now (piece .entry)) room ⌝ }
     {
         if !self.is_sound() {

@@ -10,7 +10,7 @@ ghost use lib.ListN.{length};
 ghost use Rattle.bits.specs.Tables.{tabulate};
 ghost use Rattle.alphabet.specs.Symbols.{codingBy};
 ghost use Rattle.packing.specs.Encode.{membersAhead};
-ghost use Rattle.packing.specs.Run.{ToSearch, Overlaid, Searched, Usual};
+ghost use Rattle.packing.specs.Run.{entryOf, ToSearch, Overlaid, Searched, Usual};
 
 // A non-member's position and byte, where there is one.
 pub enum First {
@@ -91,7 +91,7 @@ fn find_invalid(fold: bool, table: &[u8; 256], text: &[u8]) -> usize
 // The place of a text's first non-member, by the alphabet's encoding table, and the text's length where there is none. Ascii holds every byte, and FF is a code
 // there.
 pub fn find_bad(kind: AlphabetType, fold: bool, table: &[u8; 256], text: &[u8]) -> usize
-    requires { ⌜ now table ≡ tabulate 256 (codingBy fold kind .code) ⌝ }
+    requires { ⌜ now table ≡ tabulate 256 (entryOf (codingBy fold kind)) ⌝ }
     ensures { λ r. ⌜ r ≡ membersAhead (codingBy fold kind) (now (text .entry)) ⌝ }
 {
     if 8 <= kind.bits_per_symbol() {

@@ -21,7 +21,7 @@ ghost use Rattle.bits.specs.Packing.{bytesFor, pack};
 ghost use Rattle.bits.specs.Memory.{front};
 ghost use Rattle.alphabet.specs.Symbols.{codingBy};
 ghost use Rattle.packing.specs.Encode.{encodeBy, encodeAt, encodeMemory};
-ghost use Rattle.packing.specs.Run.{Pends, looked};
+ghost use Rattle.packing.specs.Run.{entryOf, Pends, looked};
 
 // What `encode_sequence` answers: the bytes written.
 pub enum Encoded {
@@ -32,7 +32,7 @@ pub enum Encoded {
 // The answer to a text and memory of `room` bytes: the questions in their order, and nothing written. The table is the
 // alphabet's, by the choice to fold.
 fn asked(kind: AlphabetType, fold: bool, table: &[u8; 256], text: &[u8], room: usize) -> Encoded
-    requires { ⌜ now table ≡ tabulate 256 (codingBy fold kind .code) ⌝ }
+    requires { ⌜ now table ≡ tabulate 256 (entryOf (codingBy fold kind)) ⌝ }
     ensures { λ r. ⌜ r ≡ encodeBy (codingBy fold kind) (now (text .entry)) room ⌝ }
 {
     let len = text.len();

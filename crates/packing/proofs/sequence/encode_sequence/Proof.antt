@@ -13,10 +13,10 @@ use Rattle.alphabet.specs.declared.kind.Named.the-variants.{Kind}
 use Rattle.alphabet.specs.Symbols.{Coding, codingBy}
 use Rattle.alphabet.specs.Names.{namedAt}
 use Rattle.alphabet.proofs.Laws.{lawful}
-use Rattle.alphabet.proofs.Calls.{codes-folded}
 use Rattle.packing.specs.declared.sequence.Encoded.the-variants.{Wrote}
 use Rattle.packing.specs.Encode.{encodeBy}
-use Rattle.packing.specs.Run.{Pends, looked}
+use Rattle.packing.specs.Run.{entryOf, Pends, looked}
+use Rattle.packing.proofs.Entries.{entries-folded}
 use Rattle.packing.proofs.Digits.{pack-digits}
 use Rattle.packing.proofs.Ends.{encode-unknown, encode-known, encode-kept, encode-accepted, encode-wrote}
 use Rattle.packing.proofs.sequence.encode_sequence.Statement.{statement}
@@ -46,12 +46,12 @@ listed t = effect t .before .before
 abbrev naming : tie.After-fold-entries → tie.After-named
 naming t = listed t .before .before .before
 
--- the table has the codes that the text is packed by
-codes : (t : tie.After-fold-entries) → t .fold-entries .last .1 .0 ≡ tabulate 256 (codingOf (naming t) .code)
+-- the table has the entries that the text is packed by
+codes : (t : tie.After-fold-entries) → t .fold-entries .last .1 .0 ≡ tabulate 256 (entryOf (codingOf (naming t)))
 codes t =
     let e = effect t .has-effect in
     let l = listed t .lay-codes in
-    codes-folded (start (naming t) .args .fold) (e .result) (kind (naming t)) (l .last .1 .0) (l .ensures) (e .ensures) (t .fold-entries .ensures)
+    entries-folded (start (naming t) .args .fold) (e .result) (kind (naming t)) (l .last .1 .0) (l .ensures) (e .ensures) (t .fold-entries .ensures)
 
 -- where it is answered
 abbrev table : tie.After-asked → tie.After-fold-entries

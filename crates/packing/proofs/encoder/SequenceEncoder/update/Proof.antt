@@ -3,10 +3,10 @@ use Prim.Native.Nat.{ℕ}
 use borrow.Author.Needs.{needs}
 use lib.ListN.{length}
 use Rattle.bits.specs.Tables.{tabulate}
-use Rattle.alphabet.proofs.Calls.{codes-folded}
 use Rattle.packing.specs.declared.encoder.Updated.the-variants.{Wrote}
 use Rattle.packing.specs.Encode.{packsBy, updateAt}
-use Rattle.packing.specs.Run.{Ready, ran, looked}
+use Rattle.packing.specs.Run.{entryOf, Ready, ran, looked}
+use Rattle.packing.proofs.Entries.{entries-folded}
 use Rattle.packing.proofs.Digits.{ran-digits}
 use Rattle.packing.proofs.Ends.{pends, update-accepted, update-kept, update-wrote}
 use Rattle.packing.proofs.encoder.SequenceEncoder.update.Statement.{statement}
@@ -23,12 +23,12 @@ abbrev lent : tie.After-fold-entries → tie.After-shared-slice-known
 lent f = listed f .before .before .before
 
 -- the table is the state's
-codes : (f : tie.After-fold-entries) → f .fold-entries .last .1 .0 ≡ tabulate 256 (packsBy (lent f .before .args .self) .code)
+codes : (f : tie.After-fold-entries) → f .fold-entries .last .1 .0 ≡ tabulate 256 (entryOf (packsBy (lent f .before .args .self)))
 codes f =
     let s = lent f .before .args .self in
     let e = effect f .has-effect in
     let l = listed f .lay-codes in
-    codes-folded (s .fold) (e .result) (s .alphabet) (l .last .1 .0) (l .ensures) (e .ensures) (f .fold-entries .ensures)
+    entries-folded (s .fold) (e .result) (s .alphabet) (l .last .1 .0) (l .ensures) (e .ensures) (f .fold-entries .ensures)
 
 -- where it is answered, and before that the folded table, and the entry
 abbrev table : tie.After-asked → tie.After-fold-entries
