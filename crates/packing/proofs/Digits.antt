@@ -1,5 +1,5 @@
 -- A byte's entry in the encoding table, by its low bits, is the byte's digit: a code, and b ones for FF.
-use mathlib.Core.Path.{_≡_, refl, sym, ap, _∙_}
+use mathlib.Core.Path.{_≡_, refl, sym, ap, ap₂, _∙_}
 use mathlib.Core.Bool.{Bool, true, false, cond, true≢false}
 use mathlib.Core.List.{List, [], _∷_, map}
 use mathlib.Core.Logic.{_⊎_}
@@ -22,7 +22,7 @@ use Rattle.alphabet.specs.declared.kind.AlphabetType.{AlphabetType}
 use Rattle.alphabet.specs.Symbols.{Coding, codingBy}
 use Rattle.alphabet.proofs.Laws.{lawful, Packed, Plain, shape}
 use Rattle.packing.specs.Encode.{digitOf, digitsOf, packing}
-use Rattle.packing.specs.Run.{entryOf, ran, leftOver, looked}
+use Rattle.packing.specs.Run.{entryOf, Plainly, ran, leftOver, looked}
 use Rattle.packing.proofs.Entries.{narrow, entry-plain, entry-some, entry-none}
 
 -- the low b bits of FF are b ones
@@ -77,6 +77,11 @@ pub looked-digit : (b p a : ℕ) (table text : List ℕ) (i : ℕ) → i < lengt
 looked-digit b p a table text i h =
     ap (λ (x : ℕ). x % 2 ^ b) (sym (at-map (at table) text i h)) ∙ sym (hand-digit p a b (looked table text) i)
 
+-- a text that each entry is itself of
+map-itself : (f : ℕ → ℕ) (xs : List ℕ) → ((j : ℕ) → j < length xs → f (at xs j) ≡ at xs j) → map f xs ≡ xs
+map-itself f [] h = refl
+map-itself f (x ∷ xs) h = ap₂ (λ (y : ℕ) (l : List ℕ). y ∷ l) (h 0 (omega arith)) (map-itself f xs (λ j l. h (suc j) (omega arith)))
+
 -- the digits of a text by an alphabet's encoding table have the bits of its digits by the definition
 module _ (fold : Bool) (k : AlphabetType) (table text : List ℕ) (t : table ≡ tabulate 256 (entryOf (codingBy fold k))) (bytes : Bytes text) where
   abbrev A : Coding
@@ -85,14 +90,15 @@ module _ (fold : Bool) (k : AlphabetType) (table text : List ℕ) (t : table ≡
   abbrev b : ℕ
   b = codingBy fold k .width
 
+  entry : (j : ℕ) → at table (at text j) ≡ entryOf (codingBy fold k) (at text j)
+  entry j = ap (λ (l : List ℕ). at l (at text j)) t ∙ getD-tabulate 256 (entryOf (codingBy fold k)) (at text j) 0 (bytes j)
+
   same : (j : ℕ) → at (looked table text) j % 2 ^ codingBy fold k .width ≡ at (digitsOf (codingBy fold k) text) j % 2 ^ codingBy fold k .width
   same j = go (decLt j (length text))
     where
       go : Dec (j < length text) → at (looked table text) j % 2 ^ codingBy fold k .width ≡ at (digitsOf (codingBy fold k) text) j % 2 ^ codingBy fold k .width
       go (yes h) =
-          let entry : at table (at text j) ≡ entryOf A (at text j) =
-          ap (λ (l : List ℕ). at l (at text j)) t ∙ getD-tabulate 256 (entryOf A) (at text j) 0 (bytes j) in
-          ap (λ (x : ℕ). x % 2 ^ b) (at-map (at table) text j h ∙ entry)
+          ap (λ (x : ℕ). x % 2 ^ b) (at-map (at table) text j h ∙ entry j)
           ∙ entry-digit fold k (at text j) (bytes j)
           ∙ sym (mod-eq-of-lt (digit-lt fold k (at text j)))
           ∙ ap (λ (x : ℕ). x % 2 ^ b) (sym (at-map (digitOf A) text j h))
@@ -100,6 +106,14 @@ module _ (fold : Bool) (k : AlphabetType) (table text : List ℕ) (t : table ≡
           ap (λ (x : ℕ). x % 2 ^ b)
           (List·getD-eq-default (looked table text) 0 {n = j} (rw (length-map text (at table)) (omega arith))
           ∙ sym (List·getD-eq-default (digitsOf A text) 0 {n = j} (rw (length-map text (digitOf A)) (omega arith))))
+
+  -- by a plain alphabet's they are the text
+  pub plainly : Plainly (codingBy fold k .width) table text
+  plainly wide = map-itself (at table) text (λ j l. entry j ∙ entry-plain fold k wide (at text j) ∙ own (shape fold k) (at text j))
+    where
+      own : Packed (codingBy fold k) ⊎ Plain (codingBy fold k) → (v : ℕ) → codingBy fold k .code v ≡ v
+      own (_⊎_.inl packed) v = absurd (omega (arith, packed .five))
+      own (_⊎_.inr plain) v = plain .same-code v
 
   long : length (looked table text) ≡ length (digitsOf (codingBy fold k) text)
   long = length-map text (at table) ∙ sym (length-map text (digitOf (codingBy fold k)))

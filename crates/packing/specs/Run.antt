@@ -35,6 +35,10 @@ entryOf A v = cond (ltb (A .width) 8) (cond (A .member v) (A .code v + 0x40) 0xf
 abbrev pub looked : List ℕ → List ℕ → List ℕ
 looked table text = map (at table) text
 
+-- where digits have eight bits, they are the text itself
+abbrev pub Plainly : ℕ → List ℕ → List ℕ → Type 0
+Plainly b table text = 8 ≤ b → looked table text ≡ text
+
 -- memory after a run: the whole bytes of the bits at hand are written at its front
 abbrev pub ran : ℕ → ℕ → ℕ → List ℕ → List ℕ → List ℕ
 ran b p a digits memory = front (cut 8 (atHand p a b digits) 0 ((p + length digits * b) / 8)) memory

@@ -5,7 +5,7 @@ use native.Mathlib.Omega.{arith}
 use borrow.Author.Needs.{needs}
 use lib.ListN.{length}
 use lib.Pow.{pow-pos}
-use Rattle.bits.specs.Tables.{tabulate}
+use Rattle.bits.specs.Tables.{tabulate, Bytes}
 use Rattle.bits.specs.Packing.{bytesFor, pack}
 use Rattle.bits.specs.Memory.{front}
 use Rattle.alphabet.specs.declared.kind.AlphabetType.{AlphabetType}
@@ -15,9 +15,9 @@ use Rattle.alphabet.specs.Names.{namedAt}
 use Rattle.alphabet.proofs.Laws.{lawful}
 use Rattle.packing.specs.declared.sequence.Encoded.the-variants.{Wrote}
 use Rattle.packing.specs.Encode.{encodeBy}
-use Rattle.packing.specs.Run.{entryOf, Pends, looked}
+use Rattle.packing.specs.Run.{entryOf, Pends, Plainly, looked}
 use Rattle.packing.proofs.Entries.{entries-folded}
-use Rattle.packing.proofs.Digits.{pack-digits}
+use Rattle.packing.proofs.Digits.{plainly, pack-digits}
 use Rattle.packing.proofs.Ends.{encode-unknown, encode-known, encode-kept, encode-accepted, encode-wrote}
 use Rattle.packing.proofs.sequence.encode_sequence.Statement.{statement}
 use Rattle.packing.proofs.sequence.encode_sequence.Tie as tie
@@ -59,6 +59,9 @@ table k = k .before .before .before
 
 abbrev found : tie.After-asked → tie.After-named
 found k = naming (table k)
+
+bytes : (k : tie.After-asked) → Bytes (start (found k) .args .text .now)
+bytes k i = found k .before .before .before .before .shared-slice-known .given i .fits
 
 -- an accepted text
 abbrev answered : tie.After-enum-told2 → tie.After-asked
@@ -137,7 +140,9 @@ write-packing-requires c κs =
     let h = encode-accepted (codingOf f) (a .text .now) (length (a .out .now)) _ (wrote t) in
     let law = lawful (a .fold) (kind f) in
     let none : Pends (codingOf f .width) 0 0 n = record { some = law .some-bits; narrow = law .narrow; few = omega arith; small = pow-pos 0; bounded = h .0 } in
-    subst (λ (b : ℕ). Pends b 0 0 n × (bytesFor (n * b) ≤ length (a .out .now))) (sym (w .bits-per-symbol .ensures)) (none, h .1)
+    let l : List ℕ = table (answered t) .fold-entries .last .1 .0 in
+    let plain = plainly (a .fold) (kind f) l (a .text .now) (codes (table (answered t))) (bytes (answered t)) in
+    subst (λ (b : ℕ). Pends b 0 0 n × ((bytesFor (n * b) ≤ length (a .out .now)) × Plainly b l (a .text .now))) (sym (w .bits-per-symbol .ensures)) (none, (h .1, plain))
 
 same-length : tie.Need-same-length
 same-length c = search needs
@@ -151,10 +156,9 @@ returns-3 c =
     let f = found k in
     let a = start f .args in
     let digits : List ℕ = looked (table k .fold-entries .last .1 .0) (a .text .now) in
-    let known : (i : ℕ) → _ = λ i. f .before .before .before .before .shared-slice-known .given i .fits in
     let done = p .write-packing .ensures
     ∙ ap (λ (b : ℕ). front (pack b digits) (a .out .now)) (w .bits-per-symbol .ensures)
-    ∙ ap (λ (l : List ℕ). front l (a .out .now)) (pack-digits (a .fold) (kind f) _ (a .text .now) (codes (table k)) known) in (
+    ∙ ap (λ (l : List ℕ). front l (a .out .now)) (pack-digits (a .fold) (kind f) _ (a .text .now) (codes (table k)) (bytes k)) in (
       k .asked .ensures ∙ sym (encode-known (a .alphabet) (a .fold) (a .text .now) (a .out .now) (kind f) (named f)),
       done ∙ encode-wrote (a .alphabet) (a .fold) (a .text .now) (a .out .now) (kind f) (named f) _ (wrote t),
     )

@@ -50,7 +50,7 @@ returns c =
     let s = start k in
     let a = s .args in
     let last = c .pad .ensures ∙ ap (λ (x : ℕ). x * 2 ^ (8 - length (a .text .now) * a .b % 8)) (l .left-over .ensures) in
-    pad-last (a .b) (s .pre .0 .some) (a .table .now) (a .text .now) (a .out .now) (l .before .if1 .taken) (s .pre .1) (k .pack .last .1 .1 .1 .1 .1 .0)
+    pad-last (a .b) (s .pre .0 .some) (a .table .now) (a .text .now) (a .out .now) (l .before .if1 .taken) (s .pre .1 .0) (k .pack .last .1 .1 .1 .1 .1 .0)
     (c .pad .result) (k .pack .ensures) last
 
 same-length-2 : tie.Need-same-length-2

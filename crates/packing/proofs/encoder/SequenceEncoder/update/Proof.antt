@@ -1,13 +1,14 @@
 use mathlib.Core.Path.{_≡_, sym, ap, _∙_, subst}
+use mathlib.Core.List.{List}
 use Prim.Native.Nat.{ℕ}
 use borrow.Author.Needs.{needs}
 use lib.ListN.{length}
-use Rattle.bits.specs.Tables.{tabulate}
+use Rattle.bits.specs.Tables.{tabulate, Bytes}
 use Rattle.packing.specs.declared.encoder.Updated.the-variants.{Wrote}
 use Rattle.packing.specs.Encode.{packsBy, updateAt}
-use Rattle.packing.specs.Run.{entryOf, Ready, ran, looked}
+use Rattle.packing.specs.Run.{entryOf, Ready, Plainly, ran, looked}
 use Rattle.packing.proofs.Entries.{entries-folded}
-use Rattle.packing.proofs.Digits.{ran-digits}
+use Rattle.packing.proofs.Digits.{plainly, ran-digits}
 use Rattle.packing.proofs.Ends.{pends, update-accepted, update-kept, update-wrote}
 use Rattle.packing.proofs.encoder.SequenceEncoder.update.Statement.{statement}
 use Rattle.packing.proofs.encoder.SequenceEncoder.update.Tie as tie
@@ -39,6 +40,9 @@ known k = lent (table k)
 
 abbrev start : tie.After-asked → tie.Start
 start k = known k .before
+
+bytes : (k : tie.After-asked) → Bytes (start k .args .piece .now)
+bytes k i = known k .shared-slice-known .given i .fits
 
 -- an accepted piece
 abbrev answered : tie.After-enum-told → tie.After-asked
@@ -100,8 +104,11 @@ pack-requires c κs =
     let a = entry t .args in
     let n : ℕ = length (a .piece .now) in
     let h = update-accepted (a .self) (a .piece .now) (length (a .out .now)) _ _ (wrote t) in
-    subst (λ (b : ℕ). Ready b (a .self .bits) (a .self .pending) n (length (a .out .now))) (sym (width c .bits-per-symbol .ensures))
-    (record { pends = pends (a .self) (a .piece .now) (h .is-sound) (h .bounded); fits = h .fits })
+    let l : List ℕ = table (answered t) .fold-entries .last .1 .0 in
+    subst (λ (b : ℕ). Ready b (a .self .bits) (a .self .pending) n (length (a .out .now)) × Plainly b l (a .piece .now)) (sym (width c .bits-per-symbol .ensures)) (
+      record { pends = pends (a .self) (a .piece .now) (h .is-sound) (h .bounded); fits = h .fits },
+      plainly (a .self .fold) (a .self .alphabet) l (a .piece .now) (codes (table (answered t))) (bytes (answered t)),
+    )
 
 same-length : tie.Need-same-length
 same-length c = search needs
@@ -115,7 +122,7 @@ returns-2 c =
     let s = a .self in
     let done = p .pack .ensures
     ∙ ap (λ (b : ℕ). ran b (s .bits) (s .pending) (looked (table k .fold-entries .last .1 .0) (a .piece .now)) (a .out .now)) (w .bits-per-symbol .ensures)
-    ∙ ran-digits (s .fold) (s .alphabet) _ (a .piece .now) (codes (table k)) (λ i. known k .shared-slice-known .given i .fits) (s .bits) (s .pending) (a .out .now) in
+    ∙ ran-digits (s .fold) (s .alphabet) _ (a .piece .now) (codes (table k)) (bytes k) (s .bits) (s .pending) (a .out .now) in
     (k .asked .ensures, update-wrote s (a .piece .now) (a .out .now) _ _ (wrote (w .before)) (p .pack .last .1 .1 .1 .1 .1 .0) done)
 
 pub update-spec : {M : Type 1} → statement M
