@@ -319,8 +319,8 @@ guess-members fold text bytes = holds-each fold (guessOf fold text) text (guess-
 -- ---- tables
 
 -- a table of what bytes have in an alphabet, folded by the choice where it has an effect: each byte has what the byte that it stands for has
-pub table-folded : (fold effect : Bool) (k : AlphabetType) (entry : ℕ → ℕ) (table : List ℕ) {after : List ℕ} → table ≡ tabulate 256 entry → effect ≡ (fold && folds k)
-    → after ≡ foldedEntries effect table → after ≡ tabulate 256 (λ v. entry (canon (fold && folds k) v))
+pub table-folded : (fold effect : Bool) (k : AlphabetType) (entry : ℕ → ℕ) (table : List ℕ) {after : List ℕ} → table ≡ tabulate 256 entry
+    → effect ≡ (fold && folds k) → after ≡ foldedEntries effect table → after ≡ tabulate 256 (λ v. entry (canon (fold && folds k) v))
 table-folded fold effect k entry table t e q =
     q ∙ ap (λ (f : Bool). foldedEntries f table) e ∙ entries-folded (fold && folds k) entry table t
 

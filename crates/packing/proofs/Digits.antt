@@ -2,7 +2,6 @@
 use mathlib.Core.Path.{_≡_, refl, sym, ap, ap₂, _∙_}
 use mathlib.Core.Bool.{Bool, true, false, cond, true≢false}
 use mathlib.Core.List.{List, [], _∷_, map}
-use mathlib.Core.Logic.{_⊎_}
 use Prim.Native.Nat.{ℕ, zero, suc, _+_, _-_, _*_, _/_, _%_, _^_, _≤_, _<_}
 use native.Mathlib.Nat.{mod-eq-of-lt, mul-add-mod-self-right, le-of-suc-le-suc, not-suc-le-zero}
 use native.Mathlib.Omega.{arith}
@@ -14,16 +13,15 @@ use Rattle.bits.specs.Tables.{tabulate, at, Bytes}
 use Rattle.bits.specs.Streams.{bitAt, word, after, cut}
 use Rattle.bits.specs.Packing.{bytesFor, pack, atHand}
 use Rattle.bits.specs.Memory.{front}
-use Rattle.bits.proofs.Tabulated.{getD-tabulate}
 use Rattle.bits.proofs.Computed.{below}
 use Rattle.bits.proofs.Words.{bit-low, word-ext}
 use Rattle.bits.proofs.Hand.{hand-digit, cut-ext}
 use Rattle.alphabet.specs.declared.kind.AlphabetType.{AlphabetType}
 use Rattle.alphabet.specs.Symbols.{Coding, codingBy}
-use Rattle.alphabet.proofs.Laws.{lawful, Packed, Plain, shape}
+use Rattle.alphabet.proofs.Laws.{lawful}
 use Rattle.packing.specs.Encode.{digitOf, digitsOf, packing}
 use Rattle.packing.specs.Run.{entryOf, Plainly, ran, leftOver, looked}
-use Rattle.packing.proofs.Entries.{narrow, entry-plain, entry-some, entry-none}
+use Rattle.packing.proofs.Entries.{narrow, wide, entry-plain, entry-some, entry-none, entry-at}
 
 -- the low b bits of FF are b ones
 pub ones-low : (b : ℕ) → b ≤ 8 → 0xff % 2 ^ b ≡ 2 ^ b - 1
@@ -53,17 +51,13 @@ entry-digit fold k v h = go (codingBy fold k .member v) refl (decLt (codingBy fo
     low : ℕ → ℕ
     low x = x % 2 ^ codingBy fold k .width
 
-    plain-only : (codingBy fold k .width < 8 → ⊥) → Packed (codingBy fold k) ⊎ Plain (codingBy fold k) → codingBy fold k .member v ≡ true
-    plain-only n (_⊎_.inl packed) = absurd (n (omega (arith, packed .five)))
-    plain-only n (_⊎_.inr plain) = plain .all v h
-
     go : (m : Bool) → codingBy fold k .member v ≡ m → Dec (codingBy fold k .width < 8)
         → entryOf (codingBy fold k) v % 2 ^ codingBy fold k .width ≡ cond m (codingBy fold k .code v) (2 ^ codingBy fold k .width - 1)
     go true e (yes l) =
         ap low (entry-some fold k l v e) ∙ mark-low (codingBy fold k .code v) (codingBy fold k .width) (narrow fold k l .five) ∙ mod-eq-of-lt (lawful fold k .fits v e)
     go false e (yes l) = ap low (entry-none fold k l v e) ∙ ones-low (codingBy fold k .width) (lawful fold k .narrow)
     go true e (no n) = ap low (entry-plain fold k (omega arith) v) ∙ mod-eq-of-lt (lawful fold k .fits v e)
-    go false e (no n) = absurd (let z : _≡_ {A = Bool} true false = sym (plain-only n (shape fold k)) ∙ e in true≢false z)
+    go false e (no n) = absurd (let z : _≡_ {A = Bool} true false = sym (wide fold k (omega arith) .all v h) ∙ e in true≢false z)
 
 -- entry i of a list that was mapped
 pub at-map : (f : ℕ → ℕ) (xs : List ℕ) (i : ℕ) → i < length xs → at (map f xs) i ≡ f (at xs i)
@@ -77,7 +71,7 @@ pub looked-digit : (b p a : ℕ) (table text : List ℕ) (i : ℕ) → i < lengt
 looked-digit b p a table text i h =
     ap (λ (x : ℕ). x % 2 ^ b) (sym (at-map (at table) text i h)) ∙ sym (hand-digit p a b (looked table text) i)
 
--- a text that each entry is itself of
+-- a list that a map leaves as it is
 map-itself : (f : ℕ → ℕ) (xs : List ℕ) → ((j : ℕ) → j < length xs → f (at xs j) ≡ at xs j) → map f xs ≡ xs
 map-itself f [] h = refl
 map-itself f (x ∷ xs) h = ap₂ (λ (y : ℕ) (l : List ℕ). y ∷ l) (h 0 (omega arith)) (map-itself f xs (λ j l. h (suc j) (omega arith)))
@@ -91,7 +85,7 @@ module _ (fold : Bool) (k : AlphabetType) (table text : List ℕ) (t : table ≡
   b = codingBy fold k .width
 
   entry : (j : ℕ) → at table (at text j) ≡ entryOf (codingBy fold k) (at text j)
-  entry j = ap (λ (l : List ℕ). at l (at text j)) t ∙ getD-tabulate 256 (entryOf (codingBy fold k)) (at text j) 0 (bytes j)
+  entry j = entry-at (codingBy fold k) table t (at text j) (bytes j)
 
   same : (j : ℕ) → at (looked table text) j % 2 ^ codingBy fold k .width ≡ at (digitsOf (codingBy fold k) text) j % 2 ^ codingBy fold k .width
   same j = go (decLt j (length text))
@@ -107,13 +101,9 @@ module _ (fold : Bool) (k : AlphabetType) (table text : List ℕ) (t : table ≡
           (List·getD-eq-default (looked table text) 0 {n = j} (rw (length-map text (at table)) (omega arith))
           ∙ sym (List·getD-eq-default (digitsOf A text) 0 {n = j} (rw (length-map text (digitOf A)) (omega arith))))
 
-  -- by a plain alphabet's they are the text
+  -- by a plain alphabet's table they are the text
   pub plainly : Plainly (codingBy fold k .width) table text
-  plainly wide = map-itself (at table) text (λ j l. entry j ∙ entry-plain fold k wide (at text j) ∙ own (shape fold k) (at text j))
-    where
-      own : Packed (codingBy fold k) ⊎ Plain (codingBy fold k) → (v : ℕ) → codingBy fold k .code v ≡ v
-      own (_⊎_.inl packed) v = absurd (omega (arith, packed .five))
-      own (_⊎_.inr plain) v = plain .same-code v
+  plainly h = map-itself (at table) text (λ j l. entry j ∙ entry-plain fold k h (at text j) ∙ wide fold k h .same-code (at text j))
 
   long : length (looked table text) ≡ length (digitsOf (codingBy fold k) text)
   long = length-map text (at table) ∙ sym (length-map text (digitOf (codingBy fold k)))

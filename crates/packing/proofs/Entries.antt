@@ -3,14 +3,15 @@ use mathlib.Core.Path.{_≡_, refl, sym, ap, _∙_}
 use mathlib.Core.Bool.{Bool, true, false, _&&_}
 use mathlib.Core.List.{List}
 use mathlib.Core.Logic.{_⊎_, inl, inr}
-use Prim.Native.Nat.{ℕ, _+_, _*_, _<_, _≤_, _^_}
+use Prim.Native.Nat.{ℕ, _+_, _<_, _≤_}
 use native.Mathlib.Omega.{arith}
 use borrow.Author.Tests.{lt-ltb, le-ltb}
 use lib.Bits.{bitOr, or-comm, or-shifted}
 use lib.Pow.{pow-mono}
-use Rattle.bits.specs.Tables.{tabulate}
+use Rattle.bits.specs.Tables.{tabulate, at}
+use Rattle.bits.proofs.Tabulated.{getD-tabulate}
 use Rattle.alphabet.specs.declared.kind.AlphabetType.{AlphabetType}
-use Rattle.alphabet.specs.Symbols.{coding, folds, foldedEntries, codingBy}
+use Rattle.alphabet.specs.Symbols.{Coding, coding, folds, foldedEntries, codingBy}
 use Rattle.alphabet.proofs.Laws.{Packed, Plain, lawful, shape}
 use Rattle.alphabet.proofs.Calls.{table-folded}
 use Rattle.packing.specs.Run.{entryOf}
@@ -24,7 +25,15 @@ module _ (fold : Bool) (k : AlphabetType) where
       go (inl packed) = packed
       go (inr plain) = absurd (omega (arith, plain .eight))
 
-  -- its codes have at most five bits
+  -- and another is plain
+  pub wide : 8 ≤ codingBy fold k .width → Plain (codingBy fold k)
+  wide h = go (shape fold k)
+    where
+      go : Packed (codingBy fold k) ⊎ Plain (codingBy fold k) → Plain (codingBy fold k)
+      go (inl packed) = absurd (omega (arith, packed .five))
+      go (inr plain) = plain
+
+  -- a packed alphabet's codes have at most five bits
   code-small : codingBy fold k .width < 8 → (v : ℕ) → codingBy fold k .member v ≡ true → codingBy fold k .code v < 32
   code-small h v m = omega (arith, lawful fold k .fits v m, pow-mono {i = codingBy fold k .width} {j = 5} (narrow h .five))
 
@@ -57,6 +66,10 @@ module _ (fold : Bool) (k : AlphabetType) where
             let c : ℕ = codingBy fold k .code v in
             or-comm c 0x40 ∙ or-shifted 1 6 c (omega (arith, code-small h v m)) ∙ (let turned : 0x40 + c ≡ c + 0x40 = omega arith in turned) ∙ sym (entry-some m)
         go false m = ap (λ (c : ℕ). bitOr c 0x40) (narrow h .none v m) ∙ sym (entry-none m)
+
+-- a byte's entry in a table of them
+pub entry-at : (A : Coding) (table : List ℕ) → table ≡ tabulate 256 (entryOf A) → (x : ℕ) → x < 256 → at table x ≡ entryOf A x
+entry-at A table t x h = ap (λ (l : List ℕ). at l x) t ∙ getD-tabulate 256 (entryOf A) x 0 h
 
 -- an alphabet's table, folded by the choice where it has an effect, has the entries that texts are packed by
 pub entries-folded : (fold effect : Bool) (k : AlphabetType) (table : List ℕ) {after : List ℕ} → table ≡ tabulate 256 (entryOf (coding k)) → effect ≡ (fold && folds k)

@@ -1,8 +1,7 @@
 -- The search for the first non-member and the count of all, and what they say of a text.
-use mathlib.Core.Path.{_≡_, refl, sym, ap, ap₂, subst, _∙_}
+use mathlib.Core.Path.{_≡_, refl, sym, ap, ap₂, _∙_}
 use mathlib.Core.Bool.{Bool, true, false, cond, not}
 use mathlib.Core.List.{List, [], _∷_}
-use mathlib.Core.Logic.{_⊎_}
 use Prim.Native.Nat.{ℕ, zero, suc, _+_, _-_, _≤_, _<_}
 use native.Mathlib.Nat.{zero-add, add-zero, le-of-suc-le-suc, not-suc-le-zero}
 use native.Mathlib.Decide.{decLt}
@@ -12,16 +11,15 @@ use lib.Dec.{leb, eqb, eqb·zero-suc, eqb·suc-suc}
 use lib.ListN.{length, take, drop}
 use Rattle.bits.specs.Tables.{tabulate, at, Bytes}
 use Rattle.bits.specs.Counts.{howMany}
-use Rattle.bits.proofs.Tabulated.{getD-tabulate}
 use Rattle.bits.proofs.Counted.{many-rest, many-past, many-none, many-same}
 use Rattle.alphabet.specs.declared.kind.AlphabetType.{AlphabetType}
 use Rattle.alphabet.specs.Symbols.{Coding, canon, folded, codingBy}
 use Rattle.alphabet.specs.Bases.{base, Bases, Run}
-use Rattle.alphabet.proofs.Laws.{Packed, Plain, lawful, shape, base-member, length-folded, at-folded}
+use Rattle.alphabet.proofs.Laws.{lawful, base-member, length-folded, at-folded}
 use Rattle.packing.specs.declared.first.First.{First}
 use Rattle.packing.specs.Encode.{membersAhead, firstFrom, badIn, badFrom}
 use Rattle.packing.specs.Run.{entryOf, Passed, Searched, topBit, Usual}
-use Rattle.packing.proofs.Entries.{entry-small, entry-none}
+use Rattle.packing.proofs.Entries.{wide, entry-small, entry-none, entry-at}
 
 -- n bytes more without the entry FF
 pub passed-more : (table text : List ℕ) (i n : ℕ) → Passed table text i → ((j : ℕ) → j < n → at table (at text (i + j)) ≡ 0xff → ⊥) → Passed table text (i + n)
@@ -122,34 +120,31 @@ module _ (A : Coding) where
 
 -- the same by a search of the encoding table
 module _ (fold : Bool) (k : AlphabetType) (table : List ℕ) (t : table ≡ tabulate 256 (entryOf (codingBy fold k))) where
-  entry-is : (x : ℕ) → x < 256 → at table x ≡ entryOf (codingBy fold k) x
-  entry-is x h = ap (λ (l : List ℕ). at l x) t ∙ getD-tabulate 256 (entryOf (codingBy fold k)) x 0 h
-
   module _ (h : codingBy fold k .width < 8) where
     is-member : (x : ℕ) → x < 256 → (at table x ≡ 0xff → ⊥) → codingBy fold k .member x ≡ true
     is-member x l n = go (codingBy fold k .member x) refl
       where
         go : (m : Bool) → codingBy fold k .member x ≡ m → m ≡ true
         go true e = refl
-        go false e = absurd (n (entry-is x l ∙ entry-none fold k h x e))
+        go false e = absurd (n (entry-at (codingBy fold k) table t x l ∙ entry-none fold k h x e))
 
     no-member : (x : ℕ) → x < 256 → at table x ≡ 0xff → codingBy fold k .member x ≡ false
     no-member x l q = go (codingBy fold k .member x) refl
       where
         go : (m : Bool) → codingBy fold k .member x ≡ m → m ≡ false
-        go true e = absurd (omega (arith, entry-small fold k h x e, entry-is x l, q))
+        go true e = absurd (omega (arith, entry-small fold k h x e, entry-at (codingBy fold k) table t x l, q))
         go false e = refl
 
     -- a byte that stands for a base is a member of every alphabet
     pub usual : Usual fold table
     usual =
         record {
-          entry = λ x b. let m = base-member fold k x b in omega (arith, entry-is x (lawful fold k .byte x m), entry-small fold k h x m);
+          entry = λ x b. let m = base-member fold k x b in omega (arith, entry-at (codingBy fold k) table t x (lawful fold k .byte x m), entry-small fold k h x m);
         }
 
     -- and the entries with the top bit are those of the non-members
     stranger : (x : ℕ) → x < 256 → topBit table x ≡ not (codingBy fold k .member x)
-    stranger x l = ap (leb 128) (entry-is x l) ∙ go (codingBy fold k .member x) refl
+    stranger x l = ap (leb 128) (entry-at (codingBy fold k) table t x l) ∙ go (codingBy fold k .member x) refl
       where
         go : (m : Bool) → codingBy fold k .member x ≡ m → leb 128 (entryOf (codingBy fold k) x) ≡ not m
         go true e = lt-leb 128 (entryOf (codingBy fold k) x) (entry-small fold k h x e)
@@ -167,11 +162,7 @@ module _ (fold : Bool) (k : AlphabetType) (table : List ℕ) (t : table ≡ tabu
 
     -- a plain alphabet holds every byte
     plain-members : 8 ≤ codingBy fold k .width → (j : ℕ) → codingBy fold k .member (at text j) ≡ true
-    plain-members h j = go (shape fold k)
-      where
-        go : Packed (codingBy fold k) ⊎ Plain (codingBy fold k) → codingBy fold k .member (at text j) ≡ true
-        go (_⊎_.inl packed) = absurd (omega (arith, packed .five))
-        go (_⊎_.inr plain) = plain .all (at text j) (bytes j)
+    plain-members h j = wide fold k h .all (at text j) (bytes j)
 
     pub plain-ahead : 8 ≤ codingBy fold k .width → length text ≡ membersAhead (codingBy fold k) text
     plain-ahead h = ahead-is (codingBy fold k) text (length text) (omega arith) (λ j l. plain-members h j) (λ l. absurd (omega arith))

@@ -1,5 +1,5 @@
 -- Laws of the encoding table that a call lays out.
-use mathlib.Core.Path.{_≡_, refl, sym, ap, ap₂, _∙_}
+use mathlib.Core.Path.{_≡_, sym, ap, ap₂, _∙_}
 use mathlib.Core.Bool.{false}
 use mathlib.Core.List.{List, _++_}
 use mathlib.Core.Logic.{_⊎_, inl, inr}
@@ -13,9 +13,9 @@ use Rattle.bits.specs.Memory.{putAt}
 use Rattle.bits.proofs.Tabulated.{length-tabulate, getD-tabulate, tabulate-ext, tabulate-add, replicate-tabulate}
 use Rattle.alphabet.specs.declared.kind.AlphabetType.{AlphabetType}
 use Rattle.alphabet.specs.Symbols.{coding}
-use Rattle.alphabet.proofs.Laws.{Packed, Plain, shape, row-only}
+use Rattle.alphabet.proofs.Laws.{row-only}
 use Rattle.packing.specs.Run.{entryOf}
-use Rattle.packing.proofs.Entries.{entry-marked, entry-plain}
+use Rattle.packing.proofs.Entries.{wide, entry-plain, entry-marked}
 
 -- a table that starts as FF has a place for every byte
 pub starts-long : (table : List ℕ) → table ≡ replicate 256 0xff → length table ≡ 256
@@ -58,8 +58,4 @@ row-laid k row table h r t =
 
 -- a plain alphabet's bytes are their own codes
 pub bytes-laid : (k : AlphabetType) → 8 ≤ coding k .width → tabulate 256 (λ v. v) ≡ tabulate 256 (entryOf (coding k))
-bytes-laid k wide = tabulate-ext 256 (λ v. v) (entryOf (coding k)) (λ v h. go v (shape false k) ∙ sym (entry-plain false k wide v))
-  where
-    go : (v : ℕ) → Packed (coding k) ⊎ Plain (coding k) → v ≡ coding k .code v
-    go v (inl packed) = absurd (omega (arith, packed .five))
-    go v (inr plain) = sym (plain .same-code v)
+bytes-laid k h = tabulate-ext 256 (λ v. v) (entryOf (coding k)) (λ v l. sym (entry-plain false k h v ∙ wide false k h .same-code v))
