@@ -11,18 +11,9 @@ import unittest
 import fantailclock as fc
 import test_fantailclock as model
 from fantailclock import Alphabet
-from test_fantailclock import BITS, CHOICES, LISTS, fitting, not_member, pack, soft_masked, taken
+from test_fantailclock import BITS, CHOICES, LISTS, PACKED, answered, fitting, not_member, pack, soft_masked, taken
 
-PACKED = [alphabet for alphabet in Alphabet if alphabet < Alphabet.Ascii]  # the alphabets that have non-members
 REFUSED = b"{" * 8  # a piece of non-members that fills a byte in every alphabet, so that without memory it is refused
-
-
-def told(call):
-    """The answer of a call; of a refusal its number and its values."""
-    try:
-        return call()
-    except fc.Refused as refusal:
-        return (refusal.number, *refusal.args)
 
 
 def strangers(alphabet, fold):
@@ -73,9 +64,9 @@ class Texts(unittest.TestCase):
 
     def whole(self, alphabet, fold, text):
         expected = not_member(alphabet, fold, text) or pack(alphabet, taken(alphabet, fold, text))
-        self.assertEqual(told(lambda: fc.encode_sequence(alphabet, text, fold=fold)), expected)
+        self.assertEqual(answered(lambda: fc.encode_sequence(alphabet, text, fold=fold)), expected)
         out = bytearray(len(text))
-        into = told(lambda: fc.encode_sequence_into(alphabet, text, out, fold=fold))
+        into = answered(lambda: fc.encode_sequence_into(alphabet, text, out, fold=fold))
         self.assertEqual(into, expected if isinstance(expected, tuple) else len(expected))
 
     def in_pieces(self, chance, alphabet, fold, text):
@@ -83,7 +74,7 @@ class Texts(unittest.TestCase):
         encoder, at = fc.SequenceEncoder(alphabet, fold=fold), 0
         while at < len(text):
             piece, state = text[at : at + chance.randint(1, 1 + len(text) // 3)], encoder.state
-            self.assertEqual(told(lambda: encoder.update_into(REFUSED, bytearray())), (4,))
+            self.assertEqual(answered(lambda: encoder.update_into(REFUSED, bytearray())), (4,))
             refused = fc.lib.fc_encoder_update(state, REFUSED, len(REFUSED), None, 0)
             self.assertEqual((bytes(encoder.state), bytes(refused.next)), (bytes(state), bytes(state)))
             encoder.update(piece)
@@ -94,8 +85,8 @@ class Texts(unittest.TestCase):
             self.assertEqual(kept, (int(count > 0), position, byte, count))
         expected = not_member(alphabet, fold, text) or int(encoder.state.pending_bits > 0)
         again = fc.SequenceEncoder(state=encoder.state)
-        self.assertEqual(told(lambda: again.finalize_into(bytearray(1))), expected)
-        self.assertEqual(told(lambda: len(encoder.finalize())), expected)
+        self.assertEqual(answered(lambda: again.finalize_into(bytearray(1))), expected)
+        self.assertEqual(answered(lambda: len(encoder.finalize())), expected)
 
     def test_from_a_stray_letter_to_a_wrong_file(self):
         chance = random.Random(8)
@@ -111,10 +102,10 @@ class Texts(unittest.TestCase):
             byte = strangers(alphabet, fold)[:1]
             for length in [*range(1, 600), 4095, 4096, 4097, 65_535, 65_536, 65_537, 200_003]:
                 text = byte * length
-                self.assertEqual(told(lambda: fc.encode_sequence(alphabet, text, fold=fold)), (5, 0, byte[0], length))
+                self.assertEqual(answered(lambda: fc.encode_sequence(alphabet, text, fold=fold)), (5, 0, byte[0], length))
                 encoder = fc.SequenceEncoder(alphabet, fold=fold)
                 encoder.update(text)
-                self.assertEqual(told(encoder.finalize), (5, 0, byte[0], length))
+                self.assertEqual(answered(encoder.finalize), (5, 0, byte[0], length))
 
     def test_one_non_member_at_every_place(self):
         chance = random.Random(9)
@@ -122,18 +113,18 @@ class Texts(unittest.TestCase):
             byte, members = strangers(alphabet, fold)[:1], self.text(chance, alphabet, fold, 140, 0)
             for place in range(140):
                 text = members[:place] + byte + members[place + 1 :]
-                self.assertEqual(told(lambda: fc.encode_sequence(alphabet, text, fold=fold)), (5, place, byte[0], 1))
+                self.assertEqual(answered(lambda: fc.encode_sequence(alphabet, text, fold=fold)), (5, place, byte[0], 1))
                 encoder = fc.SequenceEncoder(alphabet, fold=fold)
                 encoder.update(text)
                 encoder.update(text)  # the same once more: the first stays, the count goes on
-                self.assertEqual(told(encoder.finalize), (5, place, byte[0], 2))
+                self.assertEqual(answered(encoder.finalize), (5, place, byte[0], 2))
 
     def test_every_byte_at_once(self):
         every = bytes(range(256))
         for fold in CHOICES:
             for alphabet, letters, others in zip(PACKED, (4, 8, 16, 26), (0, 0, 0, 3)):  # of Protein's list *, - and .
                 members = letters * (1 + fold) + others
-                self.assertEqual(told(lambda: fc.encode_sequence(alphabet, every, fold=fold)), (5, 0, 0, 256 - members))
+                self.assertEqual(answered(lambda: fc.encode_sequence(alphabet, every, fold=fold)), (5, 0, 0, 256 - members))
             for alphabet in Alphabet.Ascii, Alphabet.Unknown:
                 encoder = fc.SequenceEncoder(alphabet, fold=fold)
                 self.assertEqual(encoder.update(every), every)
@@ -172,14 +163,14 @@ class Forged(unittest.TestCase):
         too_far = 2 if state.seen + len(piece) > 1 << 60 else 0
         written, after = (refusal or too_far, state) if refusal or too_far else updated(state, piece)
         encoder = fc.SequenceEncoder(state=state)
-        self.assertEqual(told(lambda: encoder.update(piece)), written if isinstance(written, bytes) else (written,), about)
+        self.assertEqual(answered(lambda: encoder.update(piece)), written if isinstance(written, bytes) else (written,), about)
         self.assertEqual(bytes(encoder.state), bytes(after), about)
         raw = fc.lib.fc_encoder_update(state, piece, len(piece), ctypes.create_string_buffer(9), 9)
         count = len(written) if isinstance(written, bytes) else 0
         self.assertEqual(bytes(raw), bytes(fc.fc_updated(refusal or too_far, count, after)), about)
         bad = (5, state.bad_position, state.bad_byte, state.bad_count) if state.has_bad == 1 else None
         last = (refusal,) if refusal else bad or bytes(state.pending_bits > 0)
-        self.assertEqual(told(fc.SequenceEncoder(state=state).finalize), last, about)
+        self.assertEqual(answered(fc.SequenceEncoder(state=state).finalize), last, about)
         values = [0, len(last), 0, 0, 0] if isinstance(last, bytes) else [refusal or 5, 0, *(last[1:] or (0, 0, 0))]
         raw = fc.lib.fc_encoder_finalize(state, ctypes.create_string_buffer(1), 1)
         self.assertEqual(bytes(raw), bytes(fc.fc_packed(*values)), about)
@@ -208,8 +199,8 @@ class Forged(unittest.TestCase):
             for piece, more in (b"ACGT", 0), (b"ANGT", 1), (b"NNNN", 4):
                 encoder = fc.SequenceEncoder(state=fc.fc_encoder(0, seen, has_bad=1, bad_byte=ord("N"), bad_count=count))
                 encoder.update(piece)
-                self.assertEqual(told(lambda: encoder.update(b"N")), (2,))  # refused, and not counted
-                self.assertEqual(told(encoder.finalize), (5, 0, ord("N"), count + more))
+                self.assertEqual(answered(lambda: encoder.update(b"N")), (2,))  # refused, and not counted
+                self.assertEqual(answered(encoder.finalize), (5, 0, ord("N"), count + more))
 
 
 class Exceptions(unittest.TestCase):

@@ -47,6 +47,15 @@ BITS = [2, 3, 4, 5, 8, 8]
 
 
 CHOICES = False, True  # to fold or not
+PACKED = [alphabet for alphabet in Alphabet if alphabet < Alphabet.Ascii]  # the alphabets that fold, and that have non-members
+
+
+def answered(call):
+    """The answer of a call; of a refusal its number and its values."""
+    try:
+        return call()
+    except fc.Refused as refusal:
+        return (refusal.number, *refusal.args)
 
 
 def taken(alphabet, fold, text):

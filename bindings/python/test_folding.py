@@ -9,23 +9,12 @@ import unittest
 import fantailclock as fc
 import test_fantailclock as model
 from fantailclock import Alphabet
-from test_fantailclock import BITS, CHOICES, LISTS, PAGE, fitting, guessed, not_member, pack, rooms, soft_masked, taken
+from test_fantailclock import BITS, CHOICES, LISTS, PACKED, PAGE, answered, fitting, guessed, not_member, pack, rooms, soft_masked, taken
 
 try:
     import numpy
 except ImportError:
     numpy = None
-
-PACKED = [alphabet for alphabet in Alphabet if alphabet < Alphabet.Ascii]  # the alphabets that fold
-
-
-def told(call):
-    """The answer of a call; of a refusal its number and its values."""
-    try:
-        return call()
-    except fc.Refused as refusal:
-        return (refusal.number, *refusal.args)
-
 
 def as_received(answer, text):
     """The answer for an uppercased text, with the byte that was received in place of the uppercase one."""
@@ -64,10 +53,10 @@ class Texts:
     def whole(self, alphabet, text):
         """A text packed whole gives what its uppercased text gives without folding, and reads back as that."""
         plain = taken(alphabet, True, text)
-        packed = told(lambda: fc.encode_sequence(alphabet, text, fold=True))
-        self.assertEqual(packed, as_received(told(lambda: fc.encode_sequence(alphabet, plain)), text))
+        packed = answered(lambda: fc.encode_sequence(alphabet, text, fold=True))
+        self.assertEqual(packed, as_received(answered(lambda: fc.encode_sequence(alphabet, plain)), text))
         out = bytearray(len(text) + 9)
-        count = told(lambda: fc.encode_sequence_into(alphabet, text, out, fold=True))
+        count = answered(lambda: fc.encode_sequence_into(alphabet, text, out, fold=True))
         if isinstance(packed, tuple):
             self.assertEqual((count, out), (packed, bytes(len(text) + 9)))
         else:
@@ -92,9 +81,9 @@ class Texts:
             self.assertEqual(bytes(on.state), bytes(state))
             self.assertEqual(bytes(other.state), bytes(state))
             joined += written
-        into = told(lambda: fc.SequenceEncoder(state=on.state).finalize_into(bytearray(1)))
-        last = told(on.finalize)
-        self.assertEqual(last, as_received(told(off.finalize), text))
+        into = answered(lambda: fc.SequenceEncoder(state=on.state).finalize_into(bytearray(1)))
+        last = answered(on.finalize)
+        self.assertEqual(last, as_received(answered(off.finalize), text))
         self.assertEqual(into, last if isinstance(last, tuple) else len(last))
         return last if isinstance(last, tuple) else joined + last
 
@@ -134,9 +123,9 @@ class SoftMasked(Texts, unittest.TestCase):
                     one = bytes([byte])
                     stands = bytes([byte - 32]) if fold and alphabet < 4 and 0x61 <= byte <= 0x7A else one
                     expected = pack(alphabet, stands) if stands in LISTS[alphabet] else (5, 0, byte, 1)
-                    self.assertEqual(told(lambda: fc.encode_sequence(alphabet, one, fold=fold)), expected)
+                    self.assertEqual(answered(lambda: fc.encode_sequence(alphabet, one, fold=fold)), expected)
                     encoder = fc.SequenceEncoder(alphabet, fold=fold)
-                    written, last = encoder.update(one), told(encoder.finalize)
+                    written, last = encoder.update(one), answered(encoder.finalize)
                     self.assertEqual(last if isinstance(last, tuple) else written + last, expected)
                     self.assertEqual(fc.guess_alphabet(one, fold=fold), guessed(fold, one))
 
@@ -190,10 +179,10 @@ class Choice(unittest.TestCase):
                     fresh = fc.fc_encoder(alphabet, fold=folds)
                     self.assertEqual(bytes(fc.SequenceEncoder(alphabet, fold=fold).state), bytes(fresh))
                 expected = b"\x9c" if folds else (5, 0, ord("a"), 4)
-                self.assertEqual(told(lambda: fc.encode_sequence(0, b"acgt", fold=fold)), expected)
+                self.assertEqual(answered(lambda: fc.encode_sequence(0, b"acgt", fold=fold)), expected)
                 out = bytearray(1)
                 expected = (1, b"\x9c") if folds else ((5, 0, ord("a"), 4), b"\0")
-                self.assertEqual((told(lambda: fc.encode_sequence_into(0, b"acgt", out, fold=fold)), out), expected)
+                self.assertEqual((answered(lambda: fc.encode_sequence_into(0, b"acgt", out, fold=fold)), out), expected)
 
     def test_what_is_neither_true_nor_false(self):
         class Undecided:
@@ -243,7 +232,7 @@ class Choice(unittest.TestCase):
             self.assertRaises(TypeError, fc.SequenceEncoder, 0, kept)
             again, guessing = fc.SequenceEncoder(state=kept), fc.Guesser(state=seen)
             self.assertEqual(again.update(b"cgt"), b"\x9c" if fold else b"\xbf")
-            self.assertEqual(told(again.finalize), b"" if fold else (5, 1, ord("c"), 3))
+            self.assertEqual(answered(again.finalize), b"" if fold else (5, 1, ord("c"), 3))
             guessing.update(b"cgt")
             self.assertEqual(guessing.guess(), Alphabet.Dna2bit if fold else Alphabet.Ascii)
 
@@ -258,7 +247,7 @@ class Choice(unittest.TestCase):
                     guesser.update(piece)
                     guesser.guess()
                     self.assertEqual((encoder.state.fold, guesser.state.fold), (fold, fold))
-                told(lambda: encoder.finalize_into(bytearray()))
+                answered(lambda: encoder.finalize_into(bytearray()))
                 self.assertEqual(encoder.state.fold, fold)
 
     def test_forged_choices(self):
@@ -267,7 +256,7 @@ class Choice(unittest.TestCase):
             for alphabet, refusal in [(each, 1) for each in Alphabet] + [(6, 8), (256, 8), ((1 << 64) - 1, 8)]:
                 self.forged_encoder(fc.fc_encoder(alphabet, fold=fold), refusal)
             guesser = fc.Guesser(state=fc.fc_guesser(31, fold))
-            self.assertEqual((told(lambda: guesser.update(b"acgt")), told(guesser.guess)), ((1,), (1,)))
+            self.assertEqual((answered(lambda: guesser.update(b"acgt")), answered(guesser.guess)), ((1,), (1,)))
             self.assertEqual(bytes(guesser.state), bytes(fc.fc_guesser(31, fold)))
         for fold in 0, 1:
             self.forged_encoder(fc.fc_encoder(6, fold=fold), 8)
@@ -280,7 +269,7 @@ class Choice(unittest.TestCase):
             lambda: encoder.finalize(),
             lambda: encoder.finalize_into(out),
         ):
-            self.assertEqual(told(call), (refusal,))
+            self.assertEqual(answered(call), (refusal,))
             self.assertEqual((bytes(encoder.state), out), (bytes(state), b"\xc3" * 9))
 
     def test_states_of_the_versions_before(self):

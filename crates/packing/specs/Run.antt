@@ -67,7 +67,7 @@ pub record Searched (table text : List ℕ) (n r : ℕ) : Type 0 where
 pub record Overlaid (table text : List ℕ) (i n r : ℕ) : Type 0 where
   pub told : (j : ℕ) → j < n → at table (at text (i + j)) ≡ 0xff → r ≡ 0xff
 
--- a byte's entry in a table has the top bit, as FF does and no code of a packed alphabet
+-- a byte's entry in a table has the top bit, as FF has it, and in a packed alphabet no member's entry
 abbrev pub topBit : List ℕ → ℕ → Bool
 topBit table x = leb 128 (at table x)
 
