@@ -102,9 +102,8 @@ module _ (fold : Bool) (k : AlphabetType) (table text : List ℕ) (t : table ≡
           ∙ sym (List·getD-eq-default (digitsOf A text) 0 {n = j} (rw (length-map text (digitOf A)) (omega arith))))
 
   -- by a plain alphabet's table they are the text
-  pub plainly : (p : ℕ) → (8 ≤ codingBy fold k .width → p ≡ 0) → Plainly (codingBy fold k .width) p table text
-  plainly p none h =
-      (none h, map-itself (at table) text (λ j l. entry j ∙ entry-plain fold k h (at text j) ∙ wide fold k h .same-code (at text j)))
+  pub plainly : Plainly (codingBy fold k .width) table text
+  plainly h = map-itself (at table) text (λ j l. entry j ∙ entry-plain fold k h (at text j) ∙ wide fold k h .same-code (at text j))
 
   long : length (looked table text) ≡ length (digitsOf (codingBy fold k) text)
   long = length-map text (at table) ∙ sym (length-map text (digitOf (codingBy fold k)))

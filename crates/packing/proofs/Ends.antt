@@ -37,7 +37,6 @@ use Rattle.packing.specs.Encode.{finalizeRest, finalizeAt, finalizeWrite
 use Rattle.packing.specs.Range.{rangeAt}
 use Rattle.packing.specs.Run.{Pends, ran, leftOver}
 use Rattle.packing.proofs.Padded.{last-byte}
-use Rattle.packing.proofs.Entries.{wide}
 
 -- ---- byte ranges
 
@@ -123,13 +122,6 @@ module _ (s : SequenceEncoder) where
   -- the pending bits are fewer than a byte
   pub few-bits : Sound s → s .bits < 8
   few-bits h = rw (h .left) (mod-lt (s .seen * packsBy s .width) (lit< tt))
-
-  -- none behind symbols of a byte each
-  pub even : soundEncoder s ≡ true → 8 ≤ packsBy s .width → s .bits ≡ 0
-  even e h =
-      let eight : packsBy s .width ≡ 8 = wide (s .fold) (s .alphabet) h .eight in
-      let none : s .seen * 8 % 8 ≡ 0 = omega arith in
-      sound e .left ∙ ap (λ (b : ℕ). s .seen * b % 8) eight ∙ none
 
 -- ---- questions
 

@@ -35,9 +35,9 @@ entryOf A v = cond (ltb (A .width) 8) (cond (A .member v) (A .code v + 0x40) 0xf
 abbrev pub looked : List ℕ → List ℕ → List ℕ
 looked table text = map (at table) text
 
--- where digits have eight bits, no bits pend before them, and they are the text itself
-abbrev pub Plainly : ℕ → ℕ → List ℕ → List ℕ → Type 0
-Plainly b p table text = 8 ≤ b → (p ≡ 0) × (looked table text ≡ text)
+-- where digits have eight bits, they are the text itself
+abbrev pub Plainly : ℕ → List ℕ → List ℕ → Type 0
+Plainly b table text = 8 ≤ b → looked table text ≡ text
 
 -- memory after a run: the whole bytes of the bits at hand are written at its front
 abbrev pub ran : ℕ → ℕ → ℕ → List ℕ → List ℕ → List ℕ

@@ -56,7 +56,7 @@ fn asked(kind: AlphabetType, fold: bool, table: &[u8; 256], text: &[u8], room: u
 
 // Writes the packing of a text's entries in a table, b bits each, its last byte included.
 fn write_packing(table: &[u8; 256], b: usize, text: &[u8], out: &mut [u8])
-    requires { ⌜ Pends b 0 0 (length (now text)) × ((bytesFor (length (now text) * b) ≤ length (now out)) × Plainly b 0 (now table) (now text)) ⌝ }
+    requires { ⌜ Pends b 0 0 (length (now text)) × ((bytesFor (length (now text) * b) ≤ length (now out)) × Plainly b (now table) (now text)) ⌝ }
     ensures { λ _. ⌜ now (out .exit) ≡ front (pack b (looked (now (table .entry)) (now (text .entry)))) (now (out .entry)) ⌝ }
 {
     run::pack(table, b, 0, 0, text, out);

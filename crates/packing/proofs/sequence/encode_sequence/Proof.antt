@@ -1,4 +1,4 @@
-use mathlib.Core.Path.{_≡_, refl, sym, ap, _∙_, subst}
+use mathlib.Core.Path.{_≡_, sym, ap, _∙_, subst}
 use mathlib.Core.List.{List}
 use Prim.Native.Nat.{ℕ, _*_, _≤_}
 use native.Mathlib.Omega.{arith}
@@ -141,8 +141,8 @@ write-packing-requires c κs =
     let law = lawful (a .fold) (kind f) in
     let none : Pends (codingOf f .width) 0 0 n = record { some = law .some-bits; narrow = law .narrow; few = omega arith; small = pow-pos 0; bounded = h .0 } in
     let l : List ℕ = table (answered t) .fold-entries .last .1 .0 in
-    let plain = plainly (a .fold) (kind f) l (a .text .now) (codes (table (answered t))) (bytes (answered t)) 0 (λ wide. refl) in
-    subst (λ (b : ℕ). Pends b 0 0 n × ((bytesFor (n * b) ≤ length (a .out .now)) × Plainly b 0 l (a .text .now))) (sym (w .bits-per-symbol .ensures)) (none, (h .1, plain))
+    let plain = plainly (a .fold) (kind f) l (a .text .now) (codes (table (answered t))) (bytes (answered t)) in
+    subst (λ (b : ℕ). Pends b 0 0 n × ((bytesFor (n * b) ≤ length (a .out .now)) × Plainly b l (a .text .now))) (sym (w .bits-per-symbol .ensures)) (none, (h .1, plain))
 
 same-length : tie.Need-same-length
 same-length c = search needs

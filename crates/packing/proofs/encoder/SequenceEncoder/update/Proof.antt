@@ -9,7 +9,7 @@ use Rattle.packing.specs.Encode.{packsBy, updateAt}
 use Rattle.packing.specs.Run.{entryOf, Ready, Plainly, ran, looked}
 use Rattle.packing.proofs.Entries.{entries-folded}
 use Rattle.packing.proofs.Digits.{plainly, ran-digits}
-use Rattle.packing.proofs.Ends.{even, pends, update-accepted, update-kept, update-wrote}
+use Rattle.packing.proofs.Ends.{pends, update-accepted, update-kept, update-wrote}
 use Rattle.packing.proofs.encoder.SequenceEncoder.update.Statement.{statement}
 use Rattle.packing.proofs.encoder.SequenceEncoder.update.Tie as tie
 
@@ -105,9 +105,9 @@ pack-requires c κs =
     let n : ℕ = length (a .piece .now) in
     let h = update-accepted (a .self) (a .piece .now) (length (a .out .now)) _ _ (wrote t) in
     let l : List ℕ = table (answered t) .fold-entries .last .1 .0 in
-    subst (λ (b : ℕ). Ready b (a .self .bits) (a .self .pending) n (length (a .out .now)) × Plainly b (a .self .bits) l (a .piece .now)) (sym (width c .bits-per-symbol .ensures)) (
+    subst (λ (b : ℕ). Ready b (a .self .bits) (a .self .pending) n (length (a .out .now)) × Plainly b l (a .piece .now)) (sym (width c .bits-per-symbol .ensures)) (
       record { pends = pends (a .self) (a .piece .now) (h .is-sound) (h .bounded); fits = h .fits },
-      plainly (a .self .fold) (a .self .alphabet) l (a .piece .now) (codes (table (answered t))) (bytes (answered t)) (a .self .bits) (even (a .self) (h .is-sound)),
+      plainly (a .self .fold) (a .self .alphabet) l (a .piece .now) (codes (table (answered t))) (bytes (answered t)),
     )
 
 same-length : tie.Need-same-length
