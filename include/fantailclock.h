@@ -77,7 +77,7 @@ typedef struct { uint64_t mask, fold; } fc_guesser;
 typedef struct { uint64_t refusal; fc_guesser next; } fc_guessing;
 
 /* An encoder's state: symbols seen; bits that fill no byte yet and their value; whether a byte was no member, 0 or 1, and the first such byte's position over
- * all pieces and its value as received (both ignored where `has_bad` is 0); whether it folds, 0 or 1; how many bytes of all pieces were no members. */
+ * all pieces and its value as received (both ignored where `has_bad` is 0); whether it folds, 0 or 1; how many bytes of all accepted pieces were no members. */
 typedef struct { uint64_t alphabet, seen, pending_bits, pending, has_bad, bad_position, bad_byte, fold, bad_count; } fc_encoder;
 typedef struct { uint64_t refusal; fc_encoder next; } fc_encoder_started;
 typedef struct { uint64_t refusal, count; fc_encoder next; } fc_updated;
@@ -126,7 +126,7 @@ fc_encoder_started fc_encoder_new(uint64_t alphabet, uint64_t fold);
 fc_updated fc_encoder_update(fc_encoder state, const uint8_t *piece, size_t len, uint8_t *out, size_t room);
 
 /* Writes the last byte, where bits pend, with zeros behind them; `count` is 0 or 1. It hands no state back: the caller still holds it.
- * Refuses by 8, 1, 5, 4. */
+ * Refuses by 8, 1, 5, 4; 5 tells the state's first non-member and its count. */
 fc_packed fc_encoder_finalize(fc_encoder state, uint8_t *out, size_t room);
 
 /* The bytes that the packing of so many symbols takes, symbols * bits / 8 rounded up. It is exact for every number of symbols, also above the 2^60 at which

@@ -181,7 +181,7 @@ class fc_range(ctypes.Structure):
 
 
 class fc_packed(ctypes.Structure):
-    """The count of a packing; where it is refused by 5, the first non-member and the number of all of them."""
+    """The count of a packing; where it is refused by 5, the first non-member and the number of all of them, else 0."""
 
     _fields_ = _numbers("refusal", "count", "position", "byte", "bad_count")
 
@@ -199,8 +199,9 @@ class fc_guessing(ctypes.Structure):
 
 
 class fc_encoder(ctypes.Structure):
-    """An encoder's state: symbols seen, bits that fill no byte yet, the first byte that was no member, as received; whether
-    it folds, 0 or 1; how many bytes were no members."""
+    """An encoder's state: symbols seen, bits that fill no byte yet, the first byte that was no member, as received (ignored
+    where `has_bad` is 0); whether it folds, 0 or 1; how many bytes of all accepted pieces were no members: 0 exactly where
+    `has_bad` is 0, else at most `seen - bad_position`. With any other count the state is refused by 1."""
 
     _fields_ = _numbers(
         "alphabet", "seen", "pending_bits", "pending", "has_bad", "bad_position", "bad_byte", "fold", "bad_count"
@@ -682,7 +683,7 @@ class SequenceEncoder:
 
     @property
     def state(self) -> fc_encoder:
-        """The state, to be kept; a copy."""
+        """The state, to be kept; a copy. Its `bad_count` is the number of non-members so far."""
         return fc_encoder.from_buffer_copy(self._state)
 
     def _open(self):

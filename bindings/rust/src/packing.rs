@@ -104,7 +104,7 @@ impl SequenceEncoder {
         SequenceEncoder { state }
     }
 
-    /// The state, to be kept.
+    /// The state, to be kept. Its `bad_count` is the number of non-members so far.
     pub fn to_raw(&self) -> raw::Encoder {
         self.state
     }

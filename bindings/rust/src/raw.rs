@@ -26,7 +26,7 @@ structs! {
     Count { refusal: u64, count: u64 }
     /// `fc_range`
     Range { refusal: u64, start: u64, end: u64 }
-    /// `fc_packed`: where the refusal is 5, the first non-member and the number of all of them.
+    /// `fc_packed`: where the refusal is 5, the first non-member and the number of all of them, else 0.
     Packed { refusal: u64, count: u64, position: u64, byte: u64, bad_count: u64 }
 
     /// `fc_guesser`: the mask of the alphabets that hold every byte seen, 16 to 31; whether it folds, 0 or 1.
@@ -36,7 +36,8 @@ structs! {
 
     /// `fc_encoder`: symbols seen; bits that fill no byte yet and their value; whether a byte was no member, and the
     /// first such byte's position over all pieces and its value as received (both ignored where `has_bad` is 0); whether
-    /// it folds, 0 or 1; how many bytes of all pieces were no members.
+    /// it folds, 0 or 1; how many bytes of all accepted pieces were no members: 0 exactly where `has_bad` is 0, else at most
+    /// `seen - bad_position`; with any other count the state is refused by 1.
     Encoder { alphabet: u64, seen: u64, pending_bits: u64, pending: u64, has_bad: u64, bad_position: u64, bad_byte: u64, fold: u64, bad_count: u64 }
     /// `fc_encoder_started`
     EncoderStarted { refusal: u64, next: Encoder }

@@ -1,4 +1,4 @@
--- Without folding all is as before: what request A1 gave the choice to is, at `false`, the equation that document 01 had. By computation.
+-- Without folding all is as before: what request A1 gave the choice to is, at `false`, the equation that document 01 had, with request A5's count. By computation.
 use mathlib.Core.Path.{_≡_, refl, ap}
 use mathlib.Core.Bool.{Bool, false}
 use mathlib.Core.List.{List, []}

@@ -1,5 +1,5 @@
 -- What a run over a text is handed, and what comes of it: digits of b bits behind bits that pend. The public calls' definitions are in Encode.antt; this is the
--- contract between them and the loops, which know a table and no alphabet. Of request A1 the search alone knows: which bytes stand for bases goes by the choice.
+-- contract between them and the loops, which know a table and no alphabet. Of request A1 the search and the count alone know: which bytes stand for bases goes by the choice.
 use Prim.Native.Nat.{ℕ, _+_, _*_, _/_, _%_, _^_, _≤_, _<_}
 use mathlib.Core.Path.{_≡_}
 use mathlib.Core.Bool.{Bool, true, cond}

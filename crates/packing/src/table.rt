@@ -36,7 +36,7 @@ fn lay_row(row: &[u8; 64], table: &mut [u8])
     }
 }
 
-// Gives a table that starts as 256 entries of FF an alphabet's codes. The caller makes the table, and it is written where it lies, in a packed alphabet 64 entries of
+// Gives a table that starts as 256 entries of FF an alphabet's entries. The caller makes the table, and it is written where it lies, in a packed alphabet 64 entries of
 // it: handed out by value it would be copied, which a short piece would notice.
 pub fn lay_codes(kind: AlphabetType, table: &mut [u8])
     requires { ⌜ now table ≡ replicate 256 0xff ⌝ }
