@@ -11,6 +11,7 @@ FOLDER = pathlib.Path(__file__).resolve().parent / "landed"
 
 ALPHABETS = ["Dna2bit", "Dna3bit", "DnaIupac", "Protein", "Ascii"]
 PACKING = [f"{calls} {alphabet}" for calls in ("update 64", "update 4096", "update 65536", "encode_sequence") for alphabet in ALPHABETS]
+COVERED = [f"window {n} covered {alphabet}" for n in (1000, 100000) for alphabet in ALPHABETS if alphabet != "Protein"]
 
 # For each request what it changed, and what is asked of the ratio now / before: the goal in words, the largest ratio that meets it, and the rows.
 REQUESTS = {
@@ -22,6 +23,10 @@ REQUESTS = {
     "A5": ("the encoder counts the non-members", [
         ("`update` and `encode_sequence` where no byte is bad: within a twentieth of what they were", 1.05, PACKING),
         ("the same, folding", 1.05, [f"folded {row}" for row in PACKING]),
+    ]),
+    "A7": ("the covered read refuses a code of Protein that no symbol has", [
+        ("covered windows of 1,000 bases and more of the other alphabets: within a tenth of what they were", 1.1, COVERED),
+        ("covered window of 1,000 bases of Protein: at most 1.3 times what it was", 1.3, ["window 1000 covered Protein"]),
     ]),
 }
 

@@ -6,8 +6,8 @@
  *
  * Refusals. `refusal` is 0 for an accepted call, else a number of those below (FC_REFUSED_..). On a refusal
  *   - no byte of output memory changes;
- *   - every further number is 0, but for what 5 and 7 tell: with 5 `position` and `byte` are those of the first non-member and `bad_count` is the number of all
- *     non-members, with 7 `outstanding` is the number of bases still to come;
+ *   - every further number is 0, but for what 5, 7 and 18 tell: with 5 `position` and `byte` are those of the first non-member and `bad_count` is the number of
+ *     all non-members, with 7 `outstanding` is the number of bases still to come, with 18 `value` is the base whose code is no symbol's;
  *   - `next`, where the answer has one, is the state that was handed in;
  *   - fc_guesser_guess, fc_encoder_finalize and fc_stream_end hand no state back, refused or not: it went in by value, and the caller still holds it;
  *   - a start has no state to hand back: it echoes its arguments in `next` as they came, with zeros beside them, so that this state is refused again.
@@ -27,6 +27,10 @@
  * choice is part of the state, 0 or 1, and no call changes it. A refusal 5 tells the byte as it was received, not its uppercase letter. The reads, the streams and
  * fc_contains know nothing of folding.
  *
+ * Codes without a symbol. FC_PROTEIN's list has 29 symbols, and the codes 29, 30 and 31 are none's. No accepted text packs to them: a damaged disk leaves them, or
+ * a text whose end was refused by 5. X, code 21, stands for a residue that was seen and is not known, and such a code is not that: fc_decode_covered refuses it by
+ * 18. The zero-filling reads, the engines and the stream show X for it, as they always did. In the other alphabets every code is a symbol's.
+ *
  * Memory. A pointer with a length names that many bytes, which the caller owns and which nothing else may write during the call. Where the length is 0
  * nothing is read or written through the pointer, which may then be any, null too. INPUT AND OUTPUT MEMORY OF ONE CALL MUST NOT OVERLAP: no call can notice
  * it, none refuses it, and the bases or packed bytes that come out are then wrong.
@@ -42,7 +46,7 @@ extern "C" {
 #endif
 
 /* The version of this header's structs. Compare it with fc_abi_version(), which tells the library's, when the program starts. */
-#define FC_ABI_VERSION 3
+#define FC_ABI_VERSION 4
 
 /* The alphabets. */
 enum { FC_DNA2BIT = 0, FC_DNA3BIT = 1, FC_DNA_IUPAC = 2, FC_PROTEIN = 3, FC_ASCII = 4, FC_UNKNOWN = 5 };
@@ -58,7 +62,8 @@ enum {
     FC_REFUSED_BAD_SKIP = 6,     /* a skip above 7 */
     FC_REFUSED_OUTSTANDING = 7,  /* a stream that is not complete: `outstanding` */
     FC_REFUSED_NO_ALPHABET = 8,  /* no alphabet has this number */
-    FC_REFUSED_TOO_WIDE = 9      /* more than 8 bits a symbol */
+    FC_REFUSED_TOO_WIDE = 9,     /* more than 8 bits a symbol */
+    FC_REFUSED_NO_SYMBOL = 18    /* a code of the window that no symbol of the alphabet has: `value` */
 };
 
 /* What a stream waits for: source, nothing (the budget is used), memory. `status` is 0 on a refusal. */
@@ -66,6 +71,9 @@ enum { FC_HUNGRY = 1, FC_DONE = 2, FC_FULL = 3 };
 
 typedef struct { uint64_t refusal, value; } fc_number;
 typedef struct { uint64_t refusal, count; } fc_count;
+
+/* value: the first base of the window whose code is no symbol's where the refusal is 18, else 0. */
+typedef struct { uint64_t refusal, count, value; } fc_covered;
 
 typedef struct { uint64_t refusal, start, end; } fc_range;
 
@@ -145,7 +153,7 @@ fc_range fc_byte_range_for_bases(uint64_t start, uint64_t end, uint64_t bits);
 /* Reads of a window: the bases from `start` to `end`, not including `end`, of a packed file of which `bytes` are the bytes from `byte_offset` on, at the
  * front of `out`. A window whose end is at most its start is empty, and is answered before any question. Every byte that is not lent reads as zero, so a
  * short fetch reads on as code zero (a run of T in Dna2bit): compare what was fetched with what was asked for, or use fc_decode_covered.
- * They refuse by 8, 2, 4, the covered read by 8, 2, 3, 4; `count` is end - start. */
+ * They refuse by 8, 2, 4, the covered read by 8, 2, 3, 4, 18; `count` is end - start. */
 fc_count fc_decode_substring_from_bytes_at_offset(uint64_t alphabet, const uint8_t *bytes, size_t len, uint64_t byte_offset, uint64_t start, uint64_t end,
                                                   uint8_t *out, size_t room);
 
@@ -155,10 +163,12 @@ fc_count fc_decode_substring_from_bytes(uint64_t alphabet, const uint8_t *bytes,
 /* The same with byte_offset and start 0: the first seq_len bases. */
 fc_count fc_decode_string_from_bytes(uint64_t alphabet, const uint8_t *bytes, size_t len, uint64_t seq_len, uint8_t *out, size_t room);
 
-/* The covered read: the same bases, refused by 3 where a byte of the window's range is not lent. */
-fc_count fc_decode_covered(uint64_t alphabet, const uint8_t *bytes, size_t len, uint64_t byte_offset, uint64_t start, uint64_t end, uint8_t *out, size_t room);
+/* The covered read: the same bases, refused by 3 where a byte of the window's range is not lent, and at last by 18 where a base of the window has a code that is
+ * no symbol's. `value` is then the first such base, counted from 0 at the sequence's start, not at the window's. Only the window's own bases are asked about: codes
+ * before and behind it, in the same bytes too, refuse nothing. */
+fc_covered fc_decode_covered(uint64_t alphabet, const uint8_t *bytes, size_t len, uint64_t byte_offset, uint64_t start, uint64_t end, uint8_t *out, size_t room);
 
-/* The engines behind the reads, with the same answers: for any alphabet, for Dna2bit, for Dna3bit. */
+/* The engines behind the zero-filling reads, with the same answers: for any alphabet, for Dna2bit, for Dna3bit. */
 fc_count fc_decode_rolling(uint64_t alphabet, const uint8_t *bytes, size_t len, uint64_t byte_offset, uint64_t start, uint64_t end, uint8_t *out, size_t room);
 fc_count fc_decode_2bit(const uint8_t *bytes, size_t len, uint64_t byte_offset, uint64_t start, uint64_t end, uint8_t *out, size_t room);
 fc_count fc_decode_3bit(const uint8_t *bytes, size_t len, uint64_t byte_offset, uint64_t start, uint64_t end, uint8_t *out, size_t room);

@@ -49,12 +49,13 @@ static void hold_alphabets(void) {
 
 /* Each refusal once, with all that its answer holds. */
 static void hold_refusals(void) {
-    uint8_t out[8], packed[1] = {0x9C};
+    uint8_t out[8], packed[1] = {0x9C}, damaged[2] = {0x07, 0x40}; /* of Protein codes 0 and 29 */
     fc_guesser guesser = {15, 0};
     fc_encoder state = fc_encoder_new(FC_DNA2BIT, 0).next;
     fc_packed text = fc_encode_sequence(FC_DNA2BIT, 0, of("ACNT"), 4, out, sizeof out);
     fc_range range = fc_byte_range_for_bases(0, 1, 9);
     fc_ended ended = fc_stream_end(fc_stream_new(FC_DNA3BIT, 6, 4).next);
+    fc_covered read = fc_decode_covered(FC_PROTEIN, damaged, 2, 0, 0, 2, out, sizeof out);
 
     hold("all accepted", fc_encode_sequence(FC_DNA2BIT, 0, of("ACGT"), 4, out, sizeof out).refusal, FC_ACCEPTED);
     hold("has_bad 0", fc_encoder_update(state, of("A"), 1, out, sizeof out).refusal, FC_ACCEPTED);
@@ -80,6 +81,72 @@ static void hold_refusals(void) {
     hold("9 bits", range.refusal, FC_REFUSED_TOO_WIDE);
     hold("start with 9", range.start, 0);
     hold("end with 9", range.end, 0);
+    hold("code 29 in Protein", read.refusal, FC_REFUSED_NO_SYMBOL);
+    hold("count with 18", read.count, 0);
+    hold("value with 18", read.value, 1);
+}
+
+/* A covered read of `lent` bytes that holds all of its answer, and every byte of the memory: the bases at its front, or nothing where it is refused. */
+static void hold_read(const char *what, uint64_t alphabet, const char *bytes, size_t lent, const uint64_t place[3], size_t room, fc_covered right,
+                      const char *bases) {
+    uint8_t out[8], after[8];
+    memset(out, 0xA5, sizeof out);
+    memset(after, 0xA5, sizeof after);
+    memcpy(after, bases, (size_t)right.count);
+    fc_covered read = fc_decode_covered(alphabet, of(bytes), lent, place[0], place[1], place[2], out, room);
+    hold(what, read.refusal, right.refusal);
+    hold(what, read.count, right.count);
+    hold(what, read.value, right.value);
+    hold(what, !memcmp(out, after, sizeof out), 1);
+}
+
+/* What the header says of codes without a symbol: which they are, which base is told, which question comes before, and that the other reads show X. */
+static void hold_codes(void) {
+    static const struct {
+        const char *what;
+        uint64_t alphabet;
+        const char *bytes;
+        size_t lent;
+        uint64_t place[3]; /* byte offset, start, end */
+        size_t room;
+        fc_covered right;
+        const char *bases;
+    } reads[] = {
+        {"18 with the first base", FC_PROTEIN, "\xE8", 1, {0, 0, 1}, 1, {FC_REFUSED_NO_SYMBOL, 0, 0}, ""},
+        {"18 with a later one", FC_PROTEIN, "\x07\x40", 2, {0, 0, 2}, 8, {FC_REFUSED_NO_SYMBOL, 0, 1}, ""},
+        {"18 with the first of two", FC_PROTEIN, "\xE8\x3C", 2, {0, 0, 3}, 8, {FC_REFUSED_NO_SYMBOL, 0, 0}, ""},
+        {"18, from the sequence's start", FC_PROTEIN, "\xE8", 1, {5, 8, 9}, 8, {FC_REFUSED_NO_SYMBOL, 0, 8}, ""},
+        {"18, behind the window", FC_PROTEIN, "\x07\x40", 2, {0, 0, 1}, 8, {FC_ACCEPTED, 1, 0}, "A"},
+        {"18, on both sides of it", FC_PROTEIN, "\xE8\x3C", 2, {0, 1, 2}, 8, {FC_ACCEPTED, 1, 0}, "A"},
+        {"X itself", FC_PROTEIN, "\xA8", 1, {0, 0, 1}, 8, {FC_ACCEPTED, 1, 0}, "X"},
+        {"4 before 18", FC_PROTEIN, "\xE8", 1, {0, 0, 1}, 0, {FC_REFUSED_SHORT_MEMORY, 0, 0}, ""},
+        {"3 before 18", FC_PROTEIN, "\xE8", 1, {0, 0, 2}, 8, {FC_REFUSED_UNCOVERED, 0, 0}, ""},
+        {"2 before 18", FC_PROTEIN, "\xE8", 1, {((uint64_t)1 << 60) + 1, 0, 1}, 8, {FC_REFUSED_TOO_FAR, 0, 0}, ""},
+        {"8 before 18", FC_UNKNOWN + 1, "\xE8", 1, {0, 0, 1}, 8, {FC_REFUSED_NO_ALPHABET, 0, 0}, ""},
+        {"an empty window before 18", FC_PROTEIN, "\xE8", 1, {0, 1, 1}, 8, {FC_ACCEPTED, 0, 0}, ""},
+        {"an empty window before 8", UINT64_MAX, "\xE8", 1, {UINT64_MAX, UINT64_MAX, 0}, 8, {FC_ACCEPTED, 0, 0}, ""},
+        {"ones in Dna2bit", FC_DNA2BIT, "\xFF", 1, {0, 0, 4}, 8, {FC_ACCEPTED, 4, 0}, "GGGG"},
+        {"ones in Dna3bit", FC_DNA3BIT, "\xFF\xFF\xFF", 3, {0, 0, 8}, 8, {FC_ACCEPTED, 8, 0}, "UUUUUUUU"},
+        {"ones in DnaIupac", FC_DNA_IUPAC, "\xFF", 1, {0, 0, 2}, 8, {FC_ACCEPTED, 2, 0}, "VV"},
+        {"1D to 1F in Ascii", FC_ASCII, "\x1D\x1E\x1F", 3, {0, 0, 3}, 8, {FC_ACCEPTED, 3, 0}, "\x1D\x1E\x1F"},
+        {"FF in Unknown", FC_UNKNOWN, "\xFF", 1, {0, 0, 1}, 8, {FC_ACCEPTED, 1, 0}, "\xFF"},
+    };
+    const char *symbols = alphabets[FC_PROTEIN].symbols;
+    for (size_t i = 0; i < sizeof reads / sizeof *reads; i++)
+        hold_read(reads[i].what, reads[i].alphabet, reads[i].bytes, reads[i].lent, reads[i].place, reads[i].room, reads[i].right, reads[i].bases);
+    for (unsigned code = 0; code < 32; code++) {
+        uint8_t byte = (uint8_t)(code << 3), out[1];
+        int known = code < strlen(symbols);
+        fc_covered read = fc_decode_covered(FC_PROTEIN, &byte, 1, 0, 0, 1, out, 1);
+        hold("a code of Protein", read.refusal, known ? FC_ACCEPTED : FC_REFUSED_NO_SYMBOL);
+        if (known) hold("its symbol", out[0], (uint8_t)symbols[code]);
+        hold("the same by another read", fc_decode_string_from_bytes(FC_PROTEIN, &byte, 1, 1, out, 1).refusal, FC_ACCEPTED);
+        hold("and its symbol", out[0], known ? (uint8_t)symbols[code] : 'X');
+        hold("the same by an engine", fc_decode_rolling(FC_PROTEIN, &byte, 1, 0, 0, 1, out, 1).refusal, FC_ACCEPTED);
+        hold("and its symbol", out[0], known ? (uint8_t)symbols[code] : 'X');
+        hold("the same by a stream", fc_stream_read(fc_stream_new(FC_PROTEIN, 0, 1).next, &byte, 1, out, 1).written, 1);
+        hold("and its symbol", out[0], known ? (uint8_t)symbols[code] : 'X');
+    }
 }
 
 /* What the header says of `bad_count`: in the answers of the calls that pack, over pieces, after a refused piece, and in a state with the three numbers that
@@ -212,6 +279,7 @@ int main(void) {
     hold("the version", fc_abi_version(), FC_ABI_VERSION);
     hold_alphabets();
     hold_refusals();
+    hold_codes();
     hold_bad_count();
     hold_folding();
     hold_statuses();

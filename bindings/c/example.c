@@ -1,6 +1,6 @@
 /*
  * Packs a text, one with lowercase letters too, tells a stray letter from a wrong file by the number of bytes that are no members, fetches a window by byte range
- * and covered read, and streams the same window byte by byte.
+ * and covered read, also out of a file that a disk has damaged, and streams the same window byte by byte.
  *
  *     cc -std=c11 -Iinclude bindings/c/example.c target/staticlib/libfantailclock.a -o example && ./example
  *
@@ -35,9 +35,11 @@ static void fetch(uint64_t alphabet, const uint8_t *file, uint64_t start, uint64
     uint8_t bases[16];
     fc_range range = fc_byte_range_for_bases(start, end, fc_bits_per_symbol(alphabet).value);
     size_t fetched = (size_t)(range.end - range.start) - missing;
-    fc_count read = fc_decode_covered(alphabet, file + range.start, fetched, range.start, start, end, bases, sizeof bases);
+    fc_covered read = fc_decode_covered(alphabet, file + range.start, fetched, range.start, start, end, bases, sizeof bases);
     printf("bases %" PRIu64 " to %" PRIu64 ", bytes %" PRIu64 " to %" PRIu64 ", %zu fetched: ", start, end, range.start, range.end, fetched);
-    if (read.refusal != 0)
+    if (read.refusal == FC_REFUSED_NO_SYMBOL)
+        printf("refused %" PRIu64 ", the code of base %" PRIu64 " is no symbol's\n", read.refusal, read.value);
+    else if (read.refusal != 0)
         printf("refused %" PRIu64 "\n", read.refusal);
     else
         printf("%.*s\n", (int)read.count, (const char *)bases);
@@ -77,5 +79,10 @@ int main(void) {
     fetch(alphabet, file, 2, 6, 0);
     fetch(alphabet, file, 2, 6, 1);
     stream(alphabet, file, 2, 6);
+    if (pack(FC_PROTEIN, 0, protein, sizeof protein, file, sizeof file) == 0)
+        return 1;
+    file[2] = 0xFF; /* as a disk may lose a byte: base 4 then has code 31 */
+    fetch(FC_PROTEIN, file, 0, 6, 0);
+    fetch(FC_PROTEIN, file, 0, 3, 0);
     return 0;
 }

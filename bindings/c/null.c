@@ -56,7 +56,7 @@ CALL(at_offset) {
 }
 CALL(substring) { TELL(fc_count, fc_decode_substring_from_bytes(g.alphabet, in.at, in.len, g.start, g.end, out.at, out.room)); }
 CALL(string) { TELL(fc_count, fc_decode_string_from_bytes(g.alphabet, in.at, in.len, g.end, out.at, out.room)); }
-CALL(covered) { TELL(fc_count, fc_decode_covered(g.alphabet, in.at, in.len, g.byte_offset, g.start, g.end, out.at, out.room)); }
+CALL(covered) { TELL(fc_covered, fc_decode_covered(g.alphabet, in.at, in.len, g.byte_offset, g.start, g.end, out.at, out.room)); }
 CALL(rolling) { TELL(fc_count, fc_decode_rolling(g.alphabet, in.at, in.len, g.byte_offset, g.start, g.end, out.at, out.room)); }
 CALL(two_bits) { TELL(fc_count, fc_decode_2bit(in.at, in.len, g.byte_offset, g.start, g.end, out.at, out.room)); }
 CALL(three_bits) { TELL(fc_count, fc_decode_3bit(in.at, in.len, g.byte_offset, g.start, g.end, out.at, out.room)); }

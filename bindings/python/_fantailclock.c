@@ -24,8 +24,8 @@ typedef struct { PyObject *refuse; } module_state;
 /* The numbers of a window; those that a call does not take are 0. */
 typedef struct { uint64_t alphabet, byte_offset, start, end; } window;
 
-/* A call that writes to memory. Its answer has the fields of fc_packed whatever the function; an encoder's state is replaced where it is accepted. Of a whole
- * text that is packed, alphabet and choice stand in `encoder`. */
+/* A call that writes to memory. Its answer has the fields of fc_packed whatever the function, what a covered read tells in `position`; an encoder's state is
+ * replaced where it is accepted. Of a whole text that is packed, alphabet and choice stand in `encoder`. */
 typedef struct call {
     PyObject *module;
     fc_packed (*make)(struct call *, uint8_t *out, size_t room);
@@ -35,7 +35,7 @@ typedef struct call {
 
 typedef PyObject *const *arguments;
 
-/* Raises a refusal, with its values: position, byte and count of 5, bases of 7. */
+/* Raises a refusal, with its values: position, byte and count of 5, bases of 7, base of 18. */
 static PyObject *refused_with(PyObject *module, uint64_t refusal, unsigned long long first, unsigned long long second, unsigned long long third) {
     module_state *state = PyModule_GetState(module);
     if (state->refuse == NULL) {
@@ -118,7 +118,7 @@ static PyObject *refused_call(call *c, fc_packed answer) {
     return refused_with(c->module, answer.refusal, answer.position, answer.byte, answer.bad_count);
 }
 
-/* New memory for a call that writes so many bytes. A long one is first made with none, so that one that is refused for another reason is over before memory
+/* New memory for a call that writes so many bytes. A long one is first made with none, so that one that is refused by an earlier question is over before memory
  * is sought: a window may be 2^60 bases long. Memory that cannot be had is memory too short. */
 static PyObject *room_for(call *c, uint64_t room) {
     if (room > FREELY) {
@@ -326,14 +326,21 @@ static PyObject *read_bases(call *c, arguments given, Py_ssize_t count, const ch
     return finished(c, w.start < w.end ? w.end - w.start : 0, into ? given[wanted] : NULL);
 }
 
-/* A read under its name, and under the name with `_into`. */
-#define READ(name, letters, ...)                                                                       \
+static fc_packed of_count(fc_count answer) {
+    return (fc_packed){.refusal = answer.refusal, .count = answer.count};
+}
+
+static fc_packed of_covered(fc_covered answer) {
+    return (fc_packed){.refusal = answer.refusal, .count = answer.count, .position = answer.value};
+}
+
+/* A read under its name, and under the name with `_into`; `told` takes its answer. */
+#define READ(name, told, letters, ...)                                                                 \
     static fc_packed make_##name(call *c, uint8_t *out, size_t room) {                                 \
         window w = c->of.window;                                                                       \
         const uint8_t *data = c->input.buf;                                                            \
         size_t len = (size_t)c->input.len;                                                             \
-        fc_count answer = fc_##name(__VA_ARGS__, out, room);                                           \
-        return (fc_packed){.refusal = answer.refusal, .count = answer.count};                          \
+        return told(fc_##name(__VA_ARGS__, out, room));                                                \
     }                                                                                                  \
     static PyObject *name(PyObject *module, arguments given, Py_ssize_t count) {                       \
         call c = {.module = module, .make = make_##name};                                              \
@@ -344,13 +351,13 @@ static PyObject *read_bases(call *c, arguments given, Py_ssize_t count, const ch
         return read_bases(&c, given, count, letters, 1);                                               \
     }
 
-READ(decode_substring_from_bytes_at_offset, "adose", w.alphabet, data, len, w.byte_offset, w.start, w.end)
-READ(decode_substring_from_bytes, "adse", w.alphabet, data, len, w.start, w.end)
-READ(decode_string_from_bytes, "ade", w.alphabet, data, len, w.end)
-READ(decode_covered, "adose", w.alphabet, data, len, w.byte_offset, w.start, w.end)
-READ(decode_rolling, "adose", w.alphabet, data, len, w.byte_offset, w.start, w.end)
-READ(decode_2bit, "dose", data, len, w.byte_offset, w.start, w.end)
-READ(decode_3bit, "dose", data, len, w.byte_offset, w.start, w.end)
+READ(decode_substring_from_bytes_at_offset, of_count, "adose", w.alphabet, data, len, w.byte_offset, w.start, w.end)
+READ(decode_substring_from_bytes, of_count, "adse", w.alphabet, data, len, w.start, w.end)
+READ(decode_string_from_bytes, of_count, "ade", w.alphabet, data, len, w.end)
+READ(decode_covered, of_covered, "adose", w.alphabet, data, len, w.byte_offset, w.start, w.end)
+READ(decode_rolling, of_count, "adose", w.alphabet, data, len, w.byte_offset, w.start, w.end)
+READ(decode_2bit, of_count, "dose", data, len, w.byte_offset, w.start, w.end)
+READ(decode_3bit, of_count, "dose", data, len, w.byte_offset, w.start, w.end)
 
 /* Streams */
 

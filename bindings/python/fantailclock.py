@@ -33,6 +33,18 @@ them; by the count a stray letter is told from a wrong file.
     1 of 4: refused by 5: byte 4E at position 2 is no member, the only one
     9 of 12: refused by 5: byte 44 at position 2 is no member, the first of 9
 
+The covered read also refuses a code that no symbol has, as a damaged disk leaves it in a file of Protein, and `NoSymbol` tells
+which base has it. The other reads and the streams show X for it, and X stands for a residue that was seen and is not known.
+
+    >>> damaged = bytes.fromhex("0740")  # codes 0 and 29
+    >>> fc.decode_string_from_bytes(fc.Alphabet.Protein, damaged, 2)
+    b'AX'
+    >>> try:
+    ...     fc.decode_covered(fc.Alphabet.Protein, damaged, 0, 0, 2)
+    ... except fc.NoSymbol as refused:
+    ...     print(f"base {refused.base}: {refused}")
+    base 1: refused by 18: the code of base 1 stands for no symbol
+
 The shared object is made by bindings/python/build; it is found there, beside this file, or where FANTAILCLOCK_SO says.
 Calls go through the extension module that stands beside it, or by ctypes where there is none, which is ten times as slow;
 `WAY` tells which, and FANTAILCLOCK_WAY (`extension` or `ctypes`) asks for one of them. Calls on more than a few thousand
@@ -62,11 +74,11 @@ if TYPE_CHECKING:
 else:
     Buffer = Any  # any object with contiguous bytes; collections.abc has a name for it from 3.12 on
 
-ABI_VERSION = 3
+ABI_VERSION = 4
 
 
 class Refused(Exception):
-    """A call that was refused: `number` is the rules' number, 1 to 9. No byte and no state has changed."""
+    """A call that was refused: `number` is the rules' number, 1 to 9 or 18. No byte and no state has changed."""
 
     number: int = 0
     about: str = ""
@@ -142,15 +154,31 @@ class TooWide(Refused):
     number, about = 9, "more than 8 bits"
 
 
+class NoSymbol(Refused):
+    """The covered read met a code that no symbol of the alphabet has: `base` is the window's first base with such a code,
+    counted from 0 at the sequence's start. Only Protein has such codes, 29 to 31, and no accepted text packs to them: the file
+    was damaged, or is another one. X stands for a residue that was seen and is not known, and they are not that; the other
+    reads and the streams show X for them all the same."""
+
+    number = 18
+
+    def __init__(self, base: int) -> None:
+        super().__init__(base)
+        self.base = base
+        self.about = f"the code of base {base} stands for no symbol"
+
+
 _REFUSALS = {
     refusal.number: refusal
-    for refusal in (Unsound, TooFar, Uncovered, ShortMemory, NotMember, BadSkip, Outstanding, NoAlphabet, TooWide)
+    for refusal in (
+        Unsound, TooFar, Uncovered, ShortMemory, NotMember, BadSkip, Outstanding, NoAlphabet, TooWide, NoSymbol
+    )
 }
-_TOLD = {NotMember: 3, Outstanding: 1}  # how many values a refusal tells; the others tell none
+_TOLD = {NotMember: 3, Outstanding: 1, NoSymbol: 1}  # how many values a refusal tells; the others tell none
 
 
 def _refuse(number, *values):
-    """Raises the refusal that has this number, with its values: position, byte and count of 5, bases of 7."""
+    """Raises the refusal that has this number, with its values: position, byte and count of 5, bases of 7, base of 18."""
     refusal = _REFUSALS[number]
     raise refusal(*values[: _TOLD.get(refusal, 0)])
 
@@ -172,6 +200,12 @@ class fc_count(ctypes.Structure):
     """A count."""
 
     _fields_ = _numbers("refusal", "count")
+
+
+class fc_covered(ctypes.Structure):
+    """The count of a covered read; where it is refused by 18, the window's first base whose code is no symbol's, else 0."""
+
+    _fields_ = _numbers("refusal", "count", "value")
 
 
 class fc_range(ctypes.Structure):
@@ -264,7 +298,7 @@ _FUNCTIONS = {
     "fc_decode_substring_from_bytes_at_offset": (fc_count, _N + _MEMORY + 3 * _N + _MEMORY),
     "fc_decode_substring_from_bytes": (fc_count, _N + _MEMORY + 2 * _N + _MEMORY),
     "fc_decode_string_from_bytes": (fc_count, _N + _MEMORY + _N + _MEMORY),
-    "fc_decode_covered": (fc_count, _N + _MEMORY + 3 * _N + _MEMORY),
+    "fc_decode_covered": (fc_covered, _N + _MEMORY + 3 * _N + _MEMORY),
     "fc_decode_rolling": (fc_count, _N + _MEMORY + 3 * _N + _MEMORY),
     "fc_decode_2bit": (fc_count, _MEMORY + 3 * _N + _MEMORY),
     "fc_decode_3bit": (fc_count, _MEMORY + 3 * _N + _MEMORY),
@@ -386,7 +420,8 @@ def _number(value):
     return value
 
 
-_VALUES = {fc_packed: ("position", "byte", "bad_count"), fc_ended: ("outstanding",)}  # the values that a refusal has
+# the values that a refusal has
+_VALUES = {fc_packed: ("position", "byte", "bad_count"), fc_ended: ("outstanding",), fc_covered: ("value",)}
 
 
 def _accepted(answer):
@@ -416,7 +451,7 @@ def _own(function, before, room):
     """The answer of a call that writes `room` bytes (none where that is below 0), and what it wrote, as new bytes;
     `before` are the arguments before its memory.
 
-    A long one is first made with no memory, so that one that is refused for another reason is over before memory is
+    A long one is first made with no memory, so that one that is refused by an earlier question is over before memory is
     sought: a window may be 2^60 bases long. Memory that cannot be had is memory too short."""
     if room > _FREELY:
         asked = function(*before, None, 0)
@@ -721,13 +756,14 @@ def byte_range_for_bases(start: SupportsIndex, end: SupportsIndex, bits: Support
 
 # Reads of a window: the bases from `start` to `end`, not including `end`, of a packed file of which `data` are the bytes
 # from `byte_offset` on. A window whose end is at most its start is empty. All but the covered read take a byte that is
-# not lent for zero: compare what was fetched with what was asked for, or use `decode_covered`.
+# not lent for zero: compare what was fetched with what was asked for, or use `decode_covered`. They also show X for a code of
+# Protein that no symbol has, which the covered read refuses.
 
 
 def decode_substring_from_bytes_at_offset(
     alphabet: SupportsIndex, data: Buffer, byte_offset: SupportsIndex, start: SupportsIndex, end: SupportsIndex
 ) -> bytes:
-    """The window's bases; every byte that is not lent reads as zero."""
+    """The window's bases; every byte that is not lent reads as zero, and a code of Protein that no symbol has as X."""
     return _calls.decode_substring_from_bytes_at_offset(alphabet, data, byte_offset, start, end)
 
 
@@ -739,7 +775,8 @@ def decode_substring_from_bytes_at_offset_into(
     end: SupportsIndex,
     out: Buffer,
 ) -> int:
-    """The window's bases, into the front of `out`; every byte that is not lent reads as zero."""
+    """The window's bases, into the front of `out`; every byte that is not lent reads as zero, and a code of Protein that no
+    symbol has as X."""
     return _calls.decode_substring_from_bytes_at_offset_into(alphabet, data, byte_offset, start, end, out)
 
 
@@ -770,7 +807,8 @@ def decode_string_from_bytes_into(alphabet: SupportsIndex, data: Buffer, seq_len
 def decode_covered(
     alphabet: SupportsIndex, data: Buffer, byte_offset: SupportsIndex, start: SupportsIndex, end: SupportsIndex
 ) -> bytes:
-    """The covered read: the same bases, refused by 3 where a byte of the window's range is not lent."""
+    """The covered read: the same bases, refused by 3 where a byte of the window's range is not lent, then by 18 where a base of
+    the window has a code that no symbol has (`NoSymbol`, with the first such base)."""
     return _calls.decode_covered(alphabet, data, byte_offset, start, end)
 
 
@@ -782,7 +820,8 @@ def decode_covered_into(
     end: SupportsIndex,
     out: Buffer,
 ) -> int:
-    """The covered read, into the front of `out`: refused by 3 where a byte of the window's range is not lent."""
+    """The covered read, into the front of `out`: refused by 3 where a byte of the window's range is not lent, and at last by 18
+    where a base of the window has a code that no symbol has (`NoSymbol`, with the first such base)."""
     return _calls.decode_covered_into(alphabet, data, byte_offset, start, end, out)
 
 
@@ -963,8 +1002,9 @@ class StreamingDecoder(io.RawIOBase):
 
     Of the source it reads just the bytes that the bases asked for need, nothing ahead. Where the source ends with bases
     outstanding, the bases that it gave are handed out first; then every read raises `Outstanding`, an EOFError. An empty
-    answer to a read thus means that the whole window was read. `read()` gives the whole window or raises. A decoder that
-    was closed raises ValueError, as io's own do; it leaves its source open."""
+    answer to a read thus means that the whole window was read. `read()` gives the whole window or raises. A code of Protein
+    that no symbol has is handed out as X; `decode_covered` refuses it. A decoder that was closed raises ValueError, as io's own
+    do; it leaves its source open."""
 
     CHUNK = 1 << 16  # the source bytes that one read takes at most
     LONG_CHUNK = 1 << 19  # and those that `read()` takes of a long window: fewer steps, and a cache still holds them

@@ -84,10 +84,12 @@ class Null(unittest.TestCase):
 
     def read(self, entry, alphabet, first, zeros):
         covered = entry == "fc_decode_covered"
-        self.same(entry, 0, 0, first=first, numbers=[*zeros, 0])
-        self.same(entry, 3 if covered else 4, 0, first=first, numbers=[*zeros, 1])
-        self.same(entry, 4, 0, first=first, numbers=[*zeros, 2], source=b"\x1b\x1b")
-        self.same(entry, 3 if covered else 0, 0 if covered else 9, first=first, numbers=[*zeros, 9], room=9)
+        value = [0] if covered else []  # no base is told but with 18
+        self.same(entry, 0, 0, *value, first=first, numbers=[*zeros, 0])
+        self.same(entry, 3 if covered else 4, 0, *value, first=first, numbers=[*zeros, 1])
+        self.same(entry, 4, 0, *value, first=first, numbers=[*zeros, 2], source=b"\x1b\x1b")
+        self.same(entry, 4, 0, *value, first=first, numbers=[*zeros, 2], source=b"\xff\xff")  # before 18
+        self.same(entry, 3 if covered else 0, 0 if covered else 9, *value, first=first, numbers=[*zeros, 9], room=9)
         code_zero = [b"T", b"A", b"N", b"A", b"\0", b"\0"][alphabet]
         self.assertEqual(self.out, PATTERN if covered else code_zero * 9)
 

@@ -181,14 +181,22 @@ class Memory(unittest.TestCase):
             del source[-1], out[-1]
 
     def test_long_calls_at_once(self):
-        """Long calls run side by side; each thread has its own memory and its own answers."""
+        """Long calls run side by side, accepted and refused; each thread has its own memory and its own answers."""
         wrong = []
 
+        def read(alphabet, file):
+            try:
+                return fc.decode_covered(alphabet, file, 0, 3, 100_000)
+            except fc.NoSymbol as refused:
+                return refused.base
+
         def work(alphabet):
-            file = bytes(random.Random(alphabet).randbytes(1 << 18))
+            file = random.Random(alphabet).randbytes(1 << 18)
             expected = fc.decode_rolling(alphabet, file, 0, 3, 100_000)
+            if alphabet == Alphabet.Protein:  # without a damaged code up to that of the last base
+                file, expected = bytes(62_499) + b"\x1f", 99_999
             for _ in range(20):
-                if fc.decode_covered(alphabet, file, 0, 3, 100_000) != expected:
+                if read(alphabet, file) != expected:
                     wrong.append(alphabet)
 
         threads = [threading.Thread(target=work, args=(alphabet,)) for alphabet in Alphabet]
@@ -217,6 +225,11 @@ class Kept(unittest.TestCase):
             ("decode_covered_into", (1, source, 0, 2, 6, source)),
             ("decode_covered_into", (1, source, 0, 2, 6, b"")),
             ("decode_covered_into", (1, source, 0, 2, 9009, out)),
+            ("decode_covered", (3, bytearray(b"\0\xff"), 0, 0, 3)),  # from here on damaged codes of Protein
+            ("decode_covered", (3, bytearray(b"\xff" * 5600), 0, 8, 8900)),
+            ("decode_covered", (3, bytearray(b"\xff" * 9), number, (1 << 43) // 5 + 1, Index((1 << 43) // 5 + 9))),
+            ("decode_covered_into", (3, bytearray(b"\0\xff"), 0, 0, 3, out)),
+            ("decode_covered_into", (3, bytearray(b"\xff" * 5600), 0, 8, 8900, out)),
             ("encode_sequence", (0, False, source)),
             ("encode_sequence", (0, True, source)),
             ("encode_sequence", (0, True, b"ACNT")),
@@ -344,6 +357,28 @@ class Alike(unittest.TestCase):
                 kinds.add(one[0] if isinstance(one[0], (type, str)) else type(one[0]))
         self.assertTrue({TypeError, BufferError, OverflowError, ZeroDivisionError, bytes, int, tuple} <= kinds, kinds)
         self.assertTrue(any("is no member, the first of" in str(kind) for kind in kinds), kinds)
+
+    @unittest.skipUnless(fc.WAY == "extension", "the extension is compared with ctypes where it is at hand")
+    def test_both_ways_tell_the_same_base(self):
+        """Windows of Protein, short and long, out of files from no damaged code to many; what is asked above is mostly refused
+        before its codes are looked at."""
+        chance, kinds = random.Random(6), {}
+        for _ in range(2000):
+            length, offset = chance.choice((1, 3, 8, 100, 9000)), chance.choice((0, 5, 7, (1 << 40) + 1))
+            data = bytearray(length)
+            for _ in range(chance.choice((0, 1, 1, 2, 9))):
+                data[chance.randrange(length)] = chance.choice((0x1F, 0xF8, 0xFF, 0xFF, chance.randrange(256)))
+            start = (offset * 8 + 4) // 5 + chance.randint(0, 9)
+            end = min(start + chance.choice((1, 4, length, 8 * length)), (offset + length) * 8 // 5 + (chance.random() < 0.1))
+            room = max(end - start + chance.choice((-1, 0, 0, 3)), 0)
+            for name, more in ("decode_covered", []), ("decode_covered_into", [lambda: bytearray(room)]):
+                made = [lambda value=value: value for value in (3, bytes(data), offset, start, end)] + more
+                one, other = self.told(fc._calls, name, made), self.told(fc._Ctypes, name, made)
+                self.assertEqual(one, other, (name, length, offset, start, end))
+                kind = one[0].split(":")[0] if isinstance(one[0], str) else "accepted"
+                kinds[kind] = kinds.get(kind, 0) + 1
+        self.assertEqual(set(kinds), {"accepted", "refused by 3", "refused by 4", "refused by 18"})
+        self.assertGreater(min(kinds["accepted"], kinds["refused by 18"]), 300, kinds)
 
     @unittest.skipUnless(fc.WAY == "extension", "the extension's own questions")
     def test_arguments_of_the_extension(self):

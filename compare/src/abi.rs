@@ -25,4 +25,4 @@ macro_rules! all_words {
     )*};
 }
 
-all_words! { u64 Number Count Range Packed Guesser Guessing EncoderStarted Updated StreamStarted Streamed Ended }
+all_words! { u64 Number Count Covered Range Packed Guesser Guessing EncoderStarted Updated StreamStarted Streamed Ended }

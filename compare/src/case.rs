@@ -75,7 +75,7 @@ entries! {
     DecodeAtOffset: "decode_substring_from_bytes_at_offset" Windows (WINDOW; "bytes out") -> ("refusal count"; ""),
     DecodeSubstring: "decode_substring_from_bytes" Windows (WINDOW; "bytes out") -> ("refusal count"; ""),
     DecodeString: "decode_string_from_bytes" Windows (WINDOW; "bytes out") -> ("refusal count"; ""),
-    DecodeCovered: "decode_covered" Windows (WINDOW; "bytes out") -> ("refusal count"; ""),
+    DecodeCovered: "decode_covered" Windows (WINDOW; "bytes out") -> ("refusal count value"; ""),
     DecodeRolling: "decode_rolling" Windows (WINDOW; "bytes out") -> ("refusal count"; ""),
     Decode2bit: "decode_2bit" Windows (WINDOW; "bytes out") -> ("refusal count"; ""),
     Decode3bit: "decode_3bit" Windows (WINDOW; "bytes out") -> ("refusal count"; ""),

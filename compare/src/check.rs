@@ -26,6 +26,8 @@ pub struct Checker {
     folding: Vec<u64>,
     /// How many cases told of more than one non-member.
     counting: Vec<u64>,
+    /// How many cases were refused for a code that no symbol has.
+    lacking: Vec<u64>,
     /// How many cases the Rust had an answer to.
     with_rust: Vec<u64>,
     differing: Vec<u64>,
@@ -37,16 +39,19 @@ pub struct Checker {
     pub noticed: Option<String>,
 }
 
-/// Every answer to one call: the words and the memory of the model and of the port, and what the Rust has to say.
+/// Every answer to one call: the words and the memory of the model and of the port, what the Rust has to say, and what its
+/// table makes of a covered read, which is no answer of the Rust's.
 struct Answers {
     model: (Vec<u64>, Memory),
     port: (Vec<u64>, Memory),
     rust: Vec<Opinion>,
+    again: Option<Opinion>,
 }
 
 impl Answers {
     fn agree(&self, call: &Call) -> bool {
-        self.port == self.model && self.rust.iter().all(|said| said.agrees(call, &self.model.0, &self.model.1))
+        let mut said = self.rust.iter().chain(&self.again);
+        self.port == self.model && said.all(|said| said.agrees(call, &self.model.0, &self.model.1))
     }
 }
 
@@ -60,6 +65,7 @@ impl Checker {
             counts: vec![[0; 8]; entries],
             folding: vec![0; entries],
             counting: vec![0; entries],
+            lacking: vec![0; entries],
             with_rust: vec![0; entries],
             differing: vec![0; entries],
             trace: false,
@@ -87,6 +93,7 @@ impl Checker {
         self.counts[call.entry as usize][column(call, &answers.model.0)] += 1;
         self.folding[call.entry as usize] += u64::from(call.folds());
         self.counting[call.entry as usize] += u64::from(tells_several(call, &answers.model.0));
+        self.lacking[call.entry as usize] += u64::from(call.entry == Entry::DecodeCovered && answers.model.0[0] == 18);
         self.with_rust[call.entry as usize] += u64::from(!answers.rust.is_empty());
         if answers.agree(call) {
             return Ok(());
@@ -124,7 +131,7 @@ impl Checker {
     fn show(&self, call: &Call, seed: u64) {
         println!("difference: {call}");
         let before = Memory::for_call(call, seed);
-        let Answers { model, port, rust } = answers(call, seed, self.fault);
+        let Answers { model, port, rust, again } = answers(call, seed, self.fault);
         let show = |who: &str, told: String, memory: &Memory, same: bool| {
             println!("  {} {who}: {told}", if same { " " } else { "!" });
             if call.entry.shape().lent.contains("out") || !call.steps.is_empty() {
@@ -133,7 +140,7 @@ impl Checker {
         };
         show("document 01", show_words(call.entry, &model.0), &model.1, true);
         show("port", show_words(call.entry, &port.0), &port.1, port == model);
-        for said in &rust {
+        for said in rust.iter().chain(&again) {
             let told = show_rows(call.entry, said.rows.iter().map(Vec::as_slice));
             show(said.of, told, &said.memory, said.agrees(call, &model.0, &model.1));
         }
@@ -146,7 +153,8 @@ impl Checker {
     pub fn print_table(&self) {
         print!("{:38}", "cases");
         COLUMNS.iter().for_each(|name| print!("{name:>9}"));
-        println!("{:>10}{:>9}{:>9}{:>10}{:>8}", "all", "folding", "counting", "with Rust", "differ");
+        print!("{:>10}{:>9}{:>9}{:>10}", "all", "folding", "counting", "no symbol");
+        println!("{:>10}{:>8}", "with Rust", "differ");
         for &entry in Entry::ALL {
             let row = &self.counts[entry as usize];
             let all: u64 = row.iter().sum();
@@ -157,6 +165,7 @@ impl Checker {
             let show = |count: u64| if count > 0 { format!("{count:>9}") } else { format!("{:>9}", "") };
             row.iter().for_each(|&count| print!("{}", show(count)));
             print!("{all:>10}{}{}", show(self.folding[entry as usize]), show(self.counting[entry as usize]));
+            print!(" {}", show(self.lacking[entry as usize]));
             println!("{:>10}{:>8}", self.with_rust[entry as usize], self.differing[entry as usize]);
         }
     }
@@ -188,7 +197,9 @@ fn answers(call: &Call, seed: u64, fault: Option<Fault>) -> Answers {
     let port = answered(&|memory| port::answer(call, memory, fault));
     // The Rust is built with checks on; where it traps inside the domain, that is an answer too, and a wrong one.
     let trapped = || Opinion { of: "Rust, which trapped", rows: vec![vec![u64::MAX]], memory: before.clone() };
-    let asked = catch_unwind(AssertUnwindSafe(|| reference::opinions(call, &before, &model.0)));
-    let rust = asked.unwrap_or_else(|_| vec![trapped()]);
-    Answers { model, port, rust }
+    let asked = catch_unwind(AssertUnwindSafe(|| {
+        (reference::opinions(call, &before, &model.0), reference::packed_again(call, &before, &model.0))
+    }));
+    let (rust, again) = asked.unwrap_or_else(|_| (vec![trapped()], None));
+    Answers { model, port, rust, again }
 }

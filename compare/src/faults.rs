@@ -101,6 +101,34 @@ faults! {
     CoverShort Windows "the covered read does without the last byte",
     MemoryBeforeCover Windows "the covered read asks 9 before 6",
     BeyondWindow Windows "a byte is written beyond the count of a window",
+    InventsX Windows "the covered read gives X for a code that no symbol has",
+    LackingFrom30 Windows "the covered read takes code 29 for a symbol's",
+    LackingBut31 Windows "the covered read takes code 31 for a symbol's",
+    LackingFrom28 Windows "the covered read refuses code 28, which is J's",
+    LackingX Windows "the covered read refuses X itself, code 21",
+    LackingOnes Windows "the covered read refuses a code of all ones in every packed alphabet",
+    LackingInAscii Windows "the covered read refuses bytes 1D to 1F in Ascii and Unknown",
+    LackingFromWindow Windows "a refusal 18 tells the base as counted from the window's start",
+    LackingFromOne Windows "a refusal 18 tells the base as counted from 1",
+    LackingNarrowed Windows "a refusal 18 tells the base in 32 bits",
+    LackingCounts Windows "a refusal 18 counts the bases before the one that it tells",
+    LackingUntold Windows "a refusal 18 tells no base",
+    LastLacking Windows "a refusal 18 tells the last such base",
+    LackingBefore Windows "the base before the window is asked for its code",
+    LackingBehind Windows "the base behind the window is asked for its code",
+    LackingBeforeMemory Windows "the covered read asks for codes before the memory",
+    LackingBeforeCover Windows "the covered read asks for codes before the bytes lent",
+    LackingBeforeEmpty Windows "an empty window is asked for a code",
+    LackingWrites Windows "a read refused by 18 has written the bases before the one that it tells",
+    LackingTold Windows "a read refused by 4 tells a base that 18 would",
+    ElevenLessOne Windows "the last of each eleven bases is not asked for its code",
+    FirstEleven Windows "only the first eleven bases are asked for their codes",
+    RestUnasked Windows "bases behind the last whole eleven are not asked for their codes",
+    WholeElevens Windows "eleven bases are asked for their codes where fewer are left",
+    FirstUnasked Windows "the first base of a window is not asked for its code",
+    LastUnasked Windows "the last base of a window is not asked for its code",
+    ZeroFillingRefuses Windows "the zero-filling reads refuse a code that no symbol has",
+    RollingRefuses Windows "the rolling engine refuses a code that no symbol has",
 
     DoneWithSkip Streaming "a zero budget is answered Done while a skip is due",
     SkipCounted Streaming "the count of bases includes the skip",
@@ -400,7 +428,80 @@ impl Fault {
             Fault::WindowLimit if end == LIMIT && start < end && words[0] != 8 => refuse(2, call, before, words, out),
             Fault::AlphabetBeforeEmpty if end <= start && alphabet > 5 => refuse(8, call, before, words, out),
             Fault::MemoryBeforeCover if words[0] == 3 && (out.len() as u64) < end - start => words[0] = 4,
+            _ if call.entry == Entry::DecodeCovered => self.lacking(call, before, words, out),
+            Fault::ZeroFillingRefuses if call.entry == Entry::DecodeRolling => {}
+            Fault::RollingRefuses if call.entry != Entry::DecodeRolling => {}
+            Fault::ZeroFillingRefuses | Fault::RollingRefuses if words[0] == 0 && first_lacking(call).is_some() => {
+                refuse(18, call, before, words, out);
+            }
             _ => {}
+        }
+    }
+
+    /// What a port whose question about codes that no symbol has is wrong in this way makes of a covered read's answer.
+    fn lacking(self, call: &Call, before: &[u8], words: &mut [u64], out: &mut [u8]) {
+        let [alphabet, _, start, end, ..] = call.numbers;
+        match (self, words[0]) {
+            (Fault::LackingFromWindow, 18) => words[2] -= start,
+            (Fault::LackingFromOne, 18) => words[2] += 1,
+            (Fault::LackingNarrowed, 18) => words[2] &= 0xFFFF_FFFF,
+            (Fault::LackingCounts, 18) => words[1] = words[2] - start,
+            (Fault::LackingUntold, 18) => words[2] = 0,
+            (Fault::LackingWrites, 18) => {
+                let written = (words[2] - start) as usize;
+                out[..written].copy_from_slice(&bases(call)[..written]);
+            }
+            (Fault::LackingTold, 4) => words[2] = first_lacking(call).unwrap_or(0),
+            (Fault::LackingBeforeMemory, 4) | (Fault::LackingBeforeCover, 3) => {
+                if let Some(base) = first_lacking(call) {
+                    words.copy_from_slice(&[18, 0, base]);
+                }
+            }
+            (Fault::LackingBeforeEmpty, 0) if start == end && alphabet == 3 && start < LIMIT => {
+                if model::lacks(3, model::code(3, start, &model::file(call))) {
+                    words.copy_from_slice(&[18, 0, start]);
+                }
+            }
+            (_, 0 | 18) if start < end => self.asked_of(call, before, words, out),
+            _ => {}
+        }
+    }
+
+    /// The answer of a covered read that asks about other codes, or about the codes of other bases, than the port does.
+    fn asked_of(self, call: &Call, before: &[u8], words: &mut [u64], out: &mut [u8]) {
+        let [alphabet, _, start, end, ..] = call.numbers;
+        let (file, count) = (model::file(call), end - start);
+        let code = |i: u64| model::code(alphabet, i, &file);
+        let lacks = |&i: &u64| model::lacks(alphabet, code(i));
+        // Refused is what the port refuses, but for one code, or with others.
+        let but = |spared: u64| (start..end).find(|i| lacks(i) && code(*i) != spared);
+        let with = |refused: &dyn Fn(u64) -> bool| (start..end).find(|i| lacks(i) || refused(code(*i)));
+        let told = match (self, alphabet) {
+            (Fault::InventsX, _) => None,
+            (Fault::LackingFrom30, 3) => but(29),
+            (Fault::LackingBut31, 3) => but(31),
+            (Fault::LackingFrom28, 3) => with(&|code| code == 28),
+            (Fault::LackingX, 3) => with(&|code| code == 21),
+            (Fault::LackingOnes, 0..=3) => with(&|code| code + 1 == 1 << model::width(alphabet)),
+            (Fault::LackingInAscii, 4 | 5) => with(&|code| (0x1D..=0x1F).contains(&code)),
+            (Fault::LastLacking, _) => (start..end).rev().find(lacks),
+            (Fault::LackingBefore, _) => (start.saturating_sub(1)..end).find(lacks),
+            (Fault::LackingBehind, _) => (start..=end).find(lacks),
+            (Fault::ElevenLessOne, _) => (start..end).find(|i| lacks(i) && (i - start) % 11 < 10),
+            (Fault::FirstEleven, _) => (start..end.min(start + 11)).find(lacks),
+            (Fault::RestUnasked, _) => (start..start + count / 11 * 11).find(lacks),
+            (Fault::WholeElevens, _) => (start..start + count.div_ceil(11) * 11).find(lacks),
+            (Fault::FirstUnasked, _) => (start + 1..end).find(lacks),
+            (Fault::LastUnasked, _) => (start..end - 1).find(lacks),
+            _ => return,
+        };
+        out.copy_from_slice(before);
+        match told {
+            Some(base) => words.copy_from_slice(&[18, 0, base]),
+            None => {
+                out[..count as usize].copy_from_slice(&bases(call));
+                words.copy_from_slice(&[0, count, 0]);
+            }
         }
     }
 
@@ -480,6 +581,21 @@ fn low_bits_first(call: &Call, out: &mut [u8]) {
         let byte = call.text.get(place).copied().unwrap_or(0);
         out[(i - start) as usize] = b"TCAG"[usize::from(byte >> (i % 4 * 2) & 3)];
     }
+}
+
+/// The bases of a window, each code that no symbol has read as X.
+fn bases(call: &Call) -> Vec<u8> {
+    let [alphabet, _, start, end, ..] = call.numbers;
+    let file = model::file(call);
+    (start..end).map(|i| model::base(alphabet, i, &file)).collect()
+}
+
+/// The first base of a window whose code no symbol has, whatever else is asked; bytes that are not lent are zeros. Of a
+/// window without end, which a read may refuse, no more is looked at than a case lends.
+fn first_lacking(call: &Call) -> Option<u64> {
+    let [alphabet, _, start, end, ..] = call.numbers;
+    let (file, end) = (model::file(call), end.min(start.saturating_add(2000)));
+    (start..end).find(|&i| model::lacks(alphabet, model::code(alphabet, i, &file)))
 }
 
 /// Eight bases from three bytes of which not all are lent: taken for absent, they read as zeros.

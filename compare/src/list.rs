@@ -8,6 +8,7 @@ mod alphabet;
 mod case;
 #[path = "sample.rs"]
 mod check;
+mod damaged;
 mod model;
 mod packing;
 mod random;
@@ -35,6 +36,8 @@ const HEAD: &str = "\
 # document 01's rules alone, for a refusal, a state or a call that the Rust lacks. The Rust does not fold: where the
 # call does, it answered of the uppercased text (not so for Ascii and Unknown), and the byte it reports is the one lent.
 # Nor does it count non-members: the last number of an encoder's state, and of what packing answers, is the model's.
+# Nor does it refuse a code that no symbol has: a refusal 18 of the covered read, and the base that it tells, are the
+# model's, and so is the third number of what that read answers.
 ";
 
 fn cases(layer: Layer, check: &mut Checker) -> Go {
@@ -73,7 +76,8 @@ fn line(call: &Call, seed: u64) -> String {
     let mut after = before.clone();
     let words = model::answer(call, &mut after);
     let opinions = reference::opinions(call, &before, &words);
-    for said in &opinions {
+    let again = reference::packed_again(call, &before, &words);
+    for said in opinions.iter().chain(&again) {
         let told = show_rows(call.entry, said.rows.iter().map(Vec::as_slice));
         assert!(said.agrees(call, &words, &after), "{call}: {} answers {told}", said.of);
     }

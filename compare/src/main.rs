@@ -4,6 +4,7 @@ mod abi;
 mod alphabet;
 mod case;
 mod check;
+mod damaged;
 mod faults;
 mod model;
 mod packing;

@@ -1,7 +1,7 @@
-//! Document 01's questions and answers, with the choice to fold (A1) and the count of non-members (A5) that document 02
-//! adds, written from their sentences and not from the Rust: slow, small, and whole. It gives every word of every answer,
-//! on a refusal too, and the memory afterwards. It is held against the Rust wherever the Rust has an answer, and decides
-//! where the Rust has none.
+//! Document 01's questions and answers, with the choice to fold (A1), the count of non-members (A5) and the covered read's
+//! question about codes that no symbol has (A7) that document 02 adds, written from their sentences and not from the Rust:
+//! slow, small, and whole. It gives every word of every answer, on a refusal too, and the memory afterwards. It is held
+//! against the Rust wherever the Rust has an answer, and decides where the Rust has none.
 
 use crate::case::{Call, Entry, Memory, Numbers};
 use crate::tally;
@@ -60,6 +60,14 @@ fn symbol(alphabet: u64, code: u64) -> u8 {
     }
 }
 
+/// Whether a code is one that the alphabet's own list lacks. Where byte v has code v, there is nothing to lack.
+pub fn lacks(alphabet: u64, code: u64) -> bool {
+    match LISTS.get(alphabet as usize) {
+        Some(list) => list.get(code as usize).is_none(),
+        None => false,
+    }
+}
+
 /// The mask of a text: bit i is set exactly when alphabet i holds every byte of it, by the choice.
 pub fn mask(fold: bool, text: &[u8]) -> u64 {
     let holds = |&alphabet: &u64| text.iter().all(|&byte| Intake { alphabet, fold }.code(byte).is_some());
@@ -89,11 +97,25 @@ pub fn packed(intake: Intake, text: &[u8]) -> Vec<u8> {
     row.chunks(8).map(|byte| number(byte) as u8).collect()
 }
 
-/// Base number `i` of a file, given as the byte at each place.
-pub fn base(alphabet: u64, i: u64, file: &dyn Fn(u64) -> u8) -> u8 {
+/// The code of base number `i` of a file, given as the byte at each place.
+pub fn code(alphabet: u64, i: u64, file: &dyn Fn(u64) -> u8) -> u64 {
     let first = i * width(alphabet);
     let row: Vec<u64> = (first..first + width(alphabet)).map(|k| u64::from(file(k / 8)) >> (7 - k % 8) & 1).collect();
-    symbol(alphabet, number(&row))
+    number(&row)
+}
+
+/// Base number `i` of a file.
+pub fn base(alphabet: u64, i: u64, file: &dyn Fn(u64) -> u8) -> u8 {
+    symbol(alphabet, code(alphabet, i, file))
+}
+
+/// The file of which a window read is lent a run of bytes: elsewhere it is zeros.
+pub fn file(call: &Call) -> impl Fn(u64) -> u8 + '_ {
+    let [_, byte_offset, ..] = call.numbers;
+    move |place| match place.checked_sub(byte_offset) {
+        Some(lent) => call.text.get(lent as usize).copied().unwrap_or(0),
+        None => 0,
+    }
 }
 
 /// The first non-member: its place, and the byte as received.
@@ -107,13 +129,15 @@ pub fn strangers(intake: Intake, text: &[u8]) -> u64 {
     text.iter().filter(|&&byte| intake.code(byte).is_none()).count() as u64
 }
 
-/// A refusal: its number, and the values that go with 5 and 7.
+/// A refusal: its number, and the values that go with 5, 7 and 18.
 #[derive(Debug)]
 pub enum No {
     Plain(u64),
     /// Position and byte of the first non-member, and how many there are.
     Member(u64, u8, u64),
     Outstanding(u64),
+    /// The window's first base whose code no symbol has, counted from the sequence's start.
+    Symbol(u64),
 }
 
 pub type Answer = Result<Vec<u64>, No>;
@@ -135,6 +159,7 @@ fn refused(call: &Call, no: &No) -> Vec<u64> {
         No::Plain(number) => words[0] = number,
         No::Member(position, byte, count) => words.copy_from_slice(&[5, 0, position, u64::from(byte), count]),
         No::Outstanding(bases) => words.copy_from_slice(&[7, bases]),
+        No::Symbol(base) => words.copy_from_slice(&[18, 0, base]),
     }
     match call.entry {
         Entry::EncoderNew => words.extend(fresh_encoder(call.numbers[0], call.numbers[1])),
@@ -155,7 +180,7 @@ pub fn ask(yes: bool, number: u64) -> Result<(), No> {
 fn accepted(call: &Call, memory: &mut Memory) -> Answer {
     let n = call.numbers;
     match call.entry {
-        Entry::AbiVersion => Ok(vec![3]),
+        Entry::AbiVersion => Ok(vec![4]),
         Entry::BitsPerSymbol => ask(n[0] <= 5, 8).map(|()| vec![0, width(n[0])]),
         Entry::Contains => {
             ask(n[0] <= 5, 8)?;
@@ -294,26 +319,29 @@ pub fn byte_range(start: u64, end: u64, bits: u64) -> Answer {
     Ok(vec![0, start * bits / 8, (end * bits).div_ceil(8)])
 }
 
-/// All window reads: the zero-filling ones, the covered one and the engines.
+/// All window reads: the zero-filling ones, the covered one and the engines. Of the covered read alone every byte of the
+/// window's range is asked, and every base's code, both of the window and of nothing beside it.
 fn window(call: &Call, out: &mut [u8]) -> Answer {
     let [alphabet, byte_offset, start, end, ..] = call.numbers;
-    let bytes = &call.text;
+    let covered = call.entry == Entry::DecodeCovered;
     if end <= start {
-        return Ok(vec![0, 0]);
+        return Ok(vec![0; call.entry.shape().width()]);
     }
     ask(alphabet <= 5, 8)?;
     ask(end <= LIMIT && byte_offset <= LIMIT, 2)?;
-    if call.entry == Entry::DecodeCovered {
+    if covered {
         let range = byte_range(start, end, width(alphabet))?;
-        ask(byte_offset <= range[1] && range[2] <= byte_offset + bytes.len() as u64, 3)?;
+        ask(byte_offset <= range[1] && range[2] <= byte_offset + call.text.len() as u64, 3)?;
     }
     ask(end - start <= out.len() as u64, 4)?;
-    let file = |place: u64| match place.checked_sub(byte_offset) {
-        Some(lent) => bytes.get(lent as usize).copied().unwrap_or(0),
-        None => 0,
-    };
+    let file = file(call);
+    if covered {
+        let lacking = (start..end).find(|&i| lacks(alphabet, code(alphabet, i, &file)));
+        lacking.map_or(Ok(()), |base| Err(No::Symbol(base)))?;
+    }
     let bases: Vec<u8> = (start..end).map(|i| base(alphabet, i, &file)).collect();
-    Ok(vec![0, write(out, &bases)?])
+    let count = write(out, &bases)?;
+    Ok(if covered { vec![0, count, 0] } else { vec![0, count] })
 }
 
 /// Question 4 for a stream.

@@ -139,11 +139,14 @@ mod windows {
         let (out, room) = (out.as_mut_ptr(), out.len());
         let window = |read: Window| unsafe { read(alphabet, bytes, len, offset, start, end, out, room) };
         let engine = |engine: Engine| unsafe { engine(bytes, len, offset, start, end, out, room) };
+        if call.entry == Entry::DecodeCovered {
+            // SAFETY: as below. Its answer has a word more than those of the others.
+            return words(unsafe { abi::fc_decode_covered(alphabet, bytes, len, offset, start, end, out, room) });
+        }
         // SAFETY: each pointer is lent with its length and the two memories are apart.
         words(unsafe {
             match call.entry {
                 Entry::DecodeAtOffset => window(abi::fc_decode_substring_from_bytes_at_offset),
-                Entry::DecodeCovered => window(abi::fc_decode_covered),
                 Entry::DecodeRolling => window(abi::fc_decode_rolling),
                 Entry::DecodeSubstring => {
                     abi::fc_decode_substring_from_bytes(alphabet, bytes, len, start, end, out, room)

@@ -1,7 +1,8 @@
 //! The Rust's answers, put in the port's form as document 01 maps them: `Vec` to lent memory and a count, `Read` to
 //! source bytes, `&mut self` to a state. Only calls in demand 2's domain get one. The Rust does not fold: a call that
 //! folds is put to it with the uppercased text, and the byte that it then reports is exchanged for the one received. Nor
-//! does it count non-members: of a state and of a refusal 5 it tells all but the count.
+//! does it count non-members: of a state and of a refusal 5 it tells all but the count. Nor does any read of its refuse a
+//! code that no symbol has; which codes these are, its own table tells (`packed_again`).
 
 use crate::case::{Call, Entry, Layer, Memory};
 use crate::model;
@@ -328,6 +329,33 @@ fn of_windows(panel: &mut Panel) {
         1 => panel.bytes("decode_3bit", |call| engine(inside::THREE, call)),
         _ => {}
     }
+}
+
+/// What two functions of the Rust make, together, of the question that none of them asks: whether the window of a covered
+/// read has a code that no symbol has. Such a code reads as some symbol and does not come back when that is packed again.
+/// Said of every covered read that passes all other questions, and of nothing else.
+pub fn packed_again(call: &Call, before: &Memory, expected: &[u64]) -> Option<Opinion> {
+    let [_, byte_offset, start, end, ..] = call.numbers;
+    if call.entry != Entry::DecodeCovered || end <= start || !matches!(expected[0], 0 | 18) {
+        return None;
+    }
+    let bits = table(call).bits_per_symbol as u64;
+    let read = engine(encoder::decode_substring_from_bytes_at_offset, call);
+    // Behind as many symbols as its block of eight bases has before the window, the window lies in its bytes as in the file's.
+    let blocks = start / 8;
+    let text = [&vec![read[0]; (start % 8) as usize], &read[..]].concat();
+    let packed = encoder::encode_sequence(text, table(call)).expect("what was read is members");
+    let bit = |bytes: &[u8], from: u64, k: u64| bytes[(k / 8 - from) as usize] >> (7 - k % 8) & 1;
+    let lost = |&k: &u64| bit(&call.text, byte_offset, k) != bit(&packed, blocks * bits, k);
+    let mut memory = before.clone();
+    let words = match (start * bits..end * bits).find(lost) {
+        Some(k) => vec![18, 0, k / bits],
+        None => {
+            write(memory.lent(0), &read);
+            vec![0, read.len() as u64, 0]
+        }
+    };
+    Some(Opinion { of: "Rust, read and packed again", rows: vec![words], memory })
 }
 
 fn engine(engine: inside::Engine, call: &Call) -> Vec<u8> {

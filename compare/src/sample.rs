@@ -9,10 +9,12 @@ use std::collections::{BTreeMap, HashSet};
 /// Nothing stops the making of cases here.
 pub type Go = Result<(), std::convert::Infallible>;
 
-/// The most lines of an entry point. Those that have the choice to fold get more; an encoder's start has little else.
+/// The most lines of an entry point. Those that have the choice to fold get more, and the read that asks the most; an
+/// encoder's start has little else.
 fn lines(entry: Entry) -> usize {
     match entry {
         Entry::EncoderNew => 120,
+        Entry::DecodeCovered => 350,
         _ if entry.shape().numbers.contains("fold") => 350,
         _ => 300,
     }
@@ -45,13 +47,13 @@ impl Checker {
     }
 
     /// Offers a call to the sample. Lists of calls are left out: each line gives the state of its call itself. So are
-    /// long calls that are refused unread.
+    /// long calls that are refused unread, by any number but 5 and 18.
     pub fn call(&mut self, call: &Call) -> Go {
         let lent = call.text.len().max(call.room);
         let Some(class) = CLASSES.iter().position(|&(most, _)| lent <= most) else { return Ok(()) };
         let words = model::answer(call, &mut Memory::for_call(call, 0));
         let [refusal, alphabet, told, fold] = group(call, &words);
-        if !call.steps.is_empty() || (class > 0 && refusal != 0 && refusal != 5) {
+        if !call.steps.is_empty() || (class > 0 && !matches!(refusal, 0 | 5 | 18)) {
             return Ok(());
         }
         let kept = self.groups[call.entry as usize].entry([class as u64, refusal, alphabet, told, fold]).or_default();
@@ -104,6 +106,13 @@ fn group(call: &Call, words: &[u64]) -> [u64; 4] {
         Entry::Contains | Entry::EncoderFinalize => words[1],
         Entry::StreamRead => words[3], // the status
         Entry::ByteRange => u64::from(call.numbers[0] > call.numbers[1]),
+        // Which base of the window is told: the first, one of the first eleven, one behind these, or one far out.
+        Entry::DecodeCovered if refusal == 18 => match words[2] - call.numbers[2] {
+            _ if words[2] > 1 << 32 => 3,
+            0 => 0,
+            1..=10 => 1,
+            _ => 2,
+        },
         _ if call.entry.shape().layer == Layer::Windows => words[1].min(1), // whether the answer is empty
         _ => 0,
     };

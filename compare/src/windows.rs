@@ -2,6 +2,7 @@
 
 use crate::case::{Call, Entry};
 use crate::check::{Checker, Go};
+use crate::damaged;
 use crate::model::{self, LIMIT};
 use crate::random::{beyond, Random};
 
@@ -16,6 +17,8 @@ const READS: [Entry; 7] = [
 ];
 
 pub fn cases(check: &mut Checker, random: &mut Random, scale: u64) -> Go {
+    // First, since many of the planted faults are noticed there, and each runs all cases before.
+    damaged::cases(check, random, scale)?;
     for alphabet in 0..=5 {
         every_window(check, random, alphabet)?;
         every_length(check, random, alphabet)?;
@@ -32,17 +35,17 @@ pub fn cases(check: &mut Checker, random: &mut Random, scale: u64) -> Go {
 }
 
 /// A window of one alphabet and the lent bytes.
-struct Window<'a> {
-    alphabet: u64,
-    bytes: &'a [u8],
-    byte_offset: u64,
-    start: u64,
-    end: u64,
-    room: usize,
+pub struct Window<'a> {
+    pub alphabet: u64,
+    pub bytes: &'a [u8],
+    pub byte_offset: u64,
+    pub start: u64,
+    pub end: u64,
+    pub room: usize,
 }
 
 impl Window<'_> {
-    fn put(&self, check: &mut Checker, entry: Entry) -> Go {
+    pub fn put(&self, check: &mut Checker, entry: Entry) -> Go {
         let numbers = [self.alphabet, self.byte_offset, self.start, self.end];
         // A read from 0 needs room for the bases before this window too, where there are not too many of them.
         let before = if entry == Entry::DecodeString && self.start < 1 << 16 { self.start as usize } else { 0 };
@@ -50,7 +53,7 @@ impl Window<'_> {
     }
 
     /// Puts it to every read that serves its alphabet; those that fix a number take it as they fix it.
-    fn put_all(&self, check: &mut Checker) -> Go {
+    pub fn put_all(&self, check: &mut Checker) -> Go {
         for entry in READS {
             let serves = match entry {
                 Entry::Decode2bit => self.alphabet == 0,
@@ -74,13 +77,23 @@ fn room_near(random: &mut Random, count: u64) -> usize {
     }
 }
 
+/// Bytes lent of a file, any bytes. In Protein a window of ten bases has mostly a code then that no symbol has, so that in
+/// every other file of it all codes are symbols'.
+fn lent(random: &mut Random, alphabet: u64, byte_offset: u64, len: usize) -> Vec<u8> {
+    let mut bytes = random.bytes(len);
+    if alphabet == damaged::PROTEIN && random.one_in(2) {
+        damaged::mend(random, byte_offset, &mut bytes);
+    }
+    bytes
+}
+
 /// Every window of files of up to seven bytes with every byte_offset and every length lent: two blocks of the 3-bit
 /// engine, its edges and what lies beside them.
 fn every_window(check: &mut Checker, random: &mut Random, alphabet: u64) -> Go {
     let bases = 56 / model::width(alphabet) + 1;
     for byte_offset in 0..=6 {
         for len in 0..=7 {
-            let bytes = random.bytes(len);
+            let bytes = lent(random, alphabet, byte_offset, len);
             for start in 0..bases {
                 for end in start..=bases {
                     let room = room_near(random, end - start);
@@ -100,7 +113,7 @@ fn every_length(check: &mut Checker, random: &mut Random, alphabet: u64) -> Go {
             let low = start * model::width(alphabet) / 8;
             let high = (end * model::width(alphabet)).div_ceil(8);
             let (byte_offset, behind) = random.pick(&[(low, high), (low, high - 1), (low + 1, high), (low, high + 1)]);
-            let bytes = random.bytes(behind.saturating_sub(byte_offset) as usize);
+            let bytes = lent(random, alphabet, byte_offset, behind.saturating_sub(byte_offset) as usize);
             Window { alphabet, bytes: &bytes, byte_offset, start, end, room: (end - start) as usize }.put_all(check)?;
         }
     }
@@ -116,7 +129,7 @@ fn random_window(check: &mut Checker, random: &mut Random, alphabet: u64) -> Go 
     let byte_offset = (low + random.below(5)).saturating_sub(if random.one_in(3) { 4 } else { 0 });
     let len = (high + random.below(5)).saturating_sub(byte_offset + random.pick(&[0, 0, 2, 9])) as usize;
     let room = room_near(random, end - start);
-    let bytes = random.bytes(len);
+    let bytes = lent(random, alphabet, byte_offset, len);
     Window { alphabet, bytes: &bytes, byte_offset, start, end, room }.put_all(check)
 }
 
@@ -131,7 +144,7 @@ fn far_window(check: &mut Checker, random: &mut Random, alphabet: u64) -> Go {
         _ => (first + random.below(6)).saturating_sub(3).min(LIMIT),
     };
     let len = random.below(48) as usize;
-    let bytes = random.bytes(len);
+    let bytes = lent(random, alphabet, byte_offset, len);
     let room = room_near(random, end - start);
     Window { alphabet, bytes: &bytes, byte_offset, start, end, room }.put_all(check)
 }
@@ -144,7 +157,7 @@ fn long_window(check: &mut Checker, random: &mut Random, alphabet: u64) -> Go {
     let byte_offset = random.below(8);
     let len = (high + random.below(20)).saturating_sub(byte_offset + random.pick(&[0, 0, 40])) as usize;
     let room = room_near(random, end - start);
-    let bytes = random.bytes(len);
+    let bytes = lent(random, alphabet, byte_offset, len);
     Window { alphabet, bytes: &bytes, byte_offset, start, end, room }.put_all(check)
 }
 

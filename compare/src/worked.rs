@@ -1,5 +1,6 @@
 //! Document 01's worked table, row by row: it holds the model to the document's own figures. Its rows do not fold; those
-//! of document 02's first request, which do, stand behind them, and those of its fifth, which count non-members.
+//! of document 02's first request, which do, stand behind them, those of its fifth, which count non-members, and those of
+//! its seventh, in which a code is no symbol's.
 
 use crate::case::{Call, Entry, Step};
 use crate::check::{Checker, Go};
@@ -7,7 +8,7 @@ use crate::model::{DONE, FULL, HUNGRY, LIMIT};
 
 /// All rows.
 pub fn rows(check: &mut Checker) -> Go {
-    let rows = [guesses(), packings(), windows(), streams(), folded(), counted()].concat();
+    let rows = [guesses(), packings(), windows(), streams(), folded(), counted(), lacking()].concat();
     for (call, words, bytes) in rows {
         check.row(&call, &words, &bytes)?;
     }
@@ -65,7 +66,6 @@ fn windows() -> Vec<Row> {
         read(zero, [0, 1, 2, 5], &[0x80], b"TTA"),
         refused(covered, [0, 1, 2, 5], &[0x80], 3, 3),
         read(zero, [3, 0, 0, 1], &[0xE8], b"X"),
-        read(covered, [3, 0, 0, 1], &[0xE8], b"X"),
         refused(zero, [0, 0, 0, LIMIT], &[], 0, 4),
         refused(zero, [0, 0, 0, LIMIT + 1], &[], 0, 2),
     ]
@@ -153,4 +153,37 @@ fn pieces(pieces: &[(&[u8], usize)], answers: &[[u64; 5]]) -> Row {
     let updates = pieces.iter().map(|&(piece, room)| Step { length: piece.len(), room, last: false });
     let steps = updates.chain([Step { length: 0, room: 1, last: true }]).collect();
     (Call::new(Entry::EncoderList, &[0, 0]).text(&text).steps(steps), answers.concat(), vec![])
+}
+
+/// The covered half of the table's Protein row, and what the sentences on codes that the list lacks make of other windows,
+/// told by hand. E8 begins with code 29, A8 with 21, which is X's own, E0 with 28, J's; 07 40 holds codes 0 and 29.
+fn lacking() -> Vec<Row> {
+    let zero_filling = |numbers: [u64; 4], bytes: &[u8], answer: &[u8]| {
+        let call = Call::new(Entry::DecodeAtOffset, &numbers).text(bytes).room(answer.len());
+        (call, vec![0, answer.len() as u64], answer.to_vec())
+    };
+    let covered = |numbers: [u64; 4], bytes: &[u8], room: usize, words: [u64; 3], answer: &[u8]| {
+        (Call::new(Entry::DecodeCovered, &numbers).text(bytes).room(room), words.to_vec(), answer.to_vec())
+    };
+    let pair = [0x07, 0x40];
+    vec![
+        covered([3, 0, 0, 1], &[0xE8], 1, [18, 0, 0], b""),
+        covered([3, 0, 0, 1], &[0xE8], 0, [4, 0, 0], b""),
+        covered([3, 0, 0, 1], &[0xA8], 1, [0, 1, 0], b"X"),
+        covered([3, 0, 0, 1], &[0xE0], 1, [0, 1, 0], b"J"),
+        covered([3, 0, 0, 1], &[0xF0], 1, [18, 0, 0], b""),
+        covered([3, 0, 0, 1], &[0xF8], 1, [18, 0, 0], b""),
+        zero_filling([3, 0, 0, 2], &pair, b"AX"),
+        covered([3, 0, 0, 2], &pair, 2, [18, 0, 1], b""),
+        covered([3, 0, 0, 1], &pair, 1, [0, 1, 0], b"A"),
+        covered([3, 0, 0, 2], &pair[..1], 2, [3, 0, 0], b""),
+        // The base is counted from the sequence's start, and those beside the window are not asked.
+        covered([3, 5, 8, 10], &pair, 2, [18, 0, 9], b""),
+        covered([3, 5, 9, 10], &pair, 1, [18, 0, 9], b""),
+        covered([3, 5, 8, 9], &pair, 1, [0, 1, 0], b"A"),
+        covered([3, 0, 2, 3], &pair, 1, [0, 1, 0], b"A"),
+        // An empty window asks nothing, and a byte of Ascii is its own code.
+        covered([3, 0, 1, 1], &[0xFF], 0, [0, 0, 0], b""),
+        covered([4, 0, 0, 3], &[0x1D, 0x1E, 0x1F], 3, [0, 3, 0], &[0x1D, 0x1E, 0x1F]),
+    ]
 }

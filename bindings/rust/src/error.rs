@@ -36,13 +36,22 @@ pub enum Error {
     NoAlphabet,
     /// 9: more than 8 bits per symbol.
     TooWide,
+    /// 18: the covered read met a code that no symbol of the alphabet has.
+    ///
+    /// Only [`Alphabet::Protein`](crate::Alphabet::Protein) has such codes, 29 to 31, and no accepted text packs to them: the
+    /// file was damaged, or is another one. X stands for a residue that was seen and is not known, and they are not that; the
+    /// other reads and the streams show X for them all the same.
+    NoSymbol {
+        /// The window's first base with such a code, counted from 0 at the sequence's start.
+        base: u64,
+    },
 }
 
 /// The answer of a call that may be refused.
 pub type Result<T> = std::result::Result<T, Error>;
 
 impl Error {
-    /// The refusal's number, 1 to 9.
+    /// The refusal's number: 1 to 9, or 18.
     pub fn number(self) -> u64 {
         match self {
             Error::Unsound => 1,
@@ -54,6 +63,7 @@ impl Error {
             Error::Outstanding { .. } => 7,
             Error::NoAlphabet => 8,
             Error::TooWide => 9,
+            Error::NoSymbol { .. } => 18,
         }
     }
 }
@@ -65,7 +75,7 @@ pub(crate) fn accepted(refusal: u64) -> Result<()> {
 
 /// The refusal that a number and its values stand for; none for 0.
 ///
-/// The values are position, byte and count of 5, and the bases of 7.
+/// The values are position, byte and count of 5, the bases of 7, and the base of 18.
 pub(crate) fn accepted_or(refusal: u64, values: [u64; 3]) -> Result<()> {
     Err(match refusal {
         0 => return Ok(()),
@@ -78,6 +88,7 @@ pub(crate) fn accepted_or(refusal: u64, values: [u64; 3]) -> Result<()> {
         7 => Error::Outstanding { bases: values[0] },
         8 => Error::NoAlphabet,
         9 => Error::TooWide,
+        18 => Error::NoSymbol { base: values[0] },
         // an archive of another version: none of its answers can be read by this crate
         _ => panic!("refusal {} is none of ABI version {}", refusal, crate::ABI_VERSION),
     })
@@ -102,6 +113,7 @@ impl fmt::Display for Error {
             Error::Outstanding { bases } => write!(f, "stream not complete, {bases} bases outstanding"),
             Error::NoAlphabet => f.write_str("no such alphabet"),
             Error::TooWide => f.write_str("more than 8 bits"),
+            Error::NoSymbol { base } => write!(f, "the code of base {base} stands for no symbol"),
         }
     }
 }

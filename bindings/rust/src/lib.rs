@@ -50,7 +50,7 @@ pub use streaming::{Status, Stream, Streamed, StreamingDecoder};
 pub use windows::*;
 
 /// The version of the C ABI's structs that this crate was written for.
-pub const ABI_VERSION: u64 = 3;
+pub const ABI_VERSION: u64 = 4;
 
 /// The version of the C ABI's structs that the linked archive has.
 pub fn abi_version() -> u64 {

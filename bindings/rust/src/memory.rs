@@ -4,7 +4,7 @@ use crate::{Error, Result};
 
 /// What a call writes, in memory of its own: `room` bytes are enough for it.
 ///
-/// The call is first made with no memory, so that one that is refused for another reason, or writes nothing, is over
+/// The call is first made with no memory, so that one that is refused by an earlier question, or writes nothing, is over
 /// before memory is sought: a window may be 2^60 bases long. Memory that cannot be had is memory too short.
 pub(crate) fn owned(room: u128, mut call: impl FnMut(&mut [u8]) -> Result<usize>) -> Result<Vec<u8>> {
     match call(&mut []) {

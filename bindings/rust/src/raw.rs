@@ -24,6 +24,8 @@ structs! {
     Number { refusal: u64, value: u64 }
     /// `fc_count`
     Count { refusal: u64, count: u64 }
+    /// `fc_covered`: where the refusal is 18, the first base of the window whose code is no symbol's, else 0.
+    Covered { refusal: u64, count: u64, value: u64 }
     /// `fc_range`
     Range { refusal: u64, start: u64, end: u64 }
     /// `fc_packed`: where the refusal is 5, the first non-member and the number of all of them, else 0.
@@ -54,7 +56,7 @@ structs! {
     Ended { refusal: u64, outstanding: u64 }
 }
 
-/// A window read that takes alphabet, lent bytes, byte_offset, start and end.
+/// A zero-filling read of a window that takes alphabet, lent bytes, byte_offset, start and end.
 pub type Window = unsafe extern "C" fn(u64, *const u8, usize, u64, u64, u64, *mut u8, usize) -> Count;
 /// An engine that serves one alphabet.
 pub type Engine = unsafe extern "C" fn(*const u8, usize, u64, u64, u64, *mut u8, usize) -> Count;
@@ -80,7 +82,7 @@ extern "C" {
     pub fn fc_decode_substring_from_bytes_at_offset(alphabet: u64, bytes: *const u8, len: usize, byte_offset: u64, start: u64, end: u64, out: *mut u8, room: usize) -> Count;
     pub fn fc_decode_substring_from_bytes(alphabet: u64, bytes: *const u8, len: usize, start: u64, end: u64, out: *mut u8, room: usize) -> Count;
     pub fn fc_decode_string_from_bytes(alphabet: u64, bytes: *const u8, len: usize, seq_len: u64, out: *mut u8, room: usize) -> Count;
-    pub fn fc_decode_covered(alphabet: u64, bytes: *const u8, len: usize, byte_offset: u64, start: u64, end: u64, out: *mut u8, room: usize) -> Count;
+    pub fn fc_decode_covered(alphabet: u64, bytes: *const u8, len: usize, byte_offset: u64, start: u64, end: u64, out: *mut u8, room: usize) -> Covered;
     pub fn fc_decode_rolling(alphabet: u64, bytes: *const u8, len: usize, byte_offset: u64, start: u64, end: u64, out: *mut u8, room: usize) -> Count;
     pub fn fc_decode_2bit(bytes: *const u8, len: usize, byte_offset: u64, start: u64, end: u64, out: *mut u8, room: usize) -> Count;
     pub fn fc_decode_3bit(bytes: *const u8, len: usize, byte_offset: u64, start: u64, end: u64, out: *mut u8, room: usize) -> Count;

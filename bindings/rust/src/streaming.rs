@@ -120,7 +120,8 @@ const CHUNK: usize = 8192;
 /// though never a byte beyond the window; `.bytes()` of the decoder itself makes a call of the library for each base, which
 /// costs some thirty times as much. Where the source ends with bases outstanding, the bases that it gave are handed out first; then every
 /// read is an error of kind `UnexpectedEof` that holds [`Error::Outstanding`]. An `Ok(0)` for a buffer with room thus
-/// means that the whole window was read.
+/// means that the whole window was read. A code of Protein that no symbol has is handed out as X;
+/// [`decode_covered`](crate::decode_covered) refuses it.
 ///
 /// ```
 /// use fantailclock::{Alphabet, StreamingDecoder};

@@ -1,16 +1,31 @@
 //! Reads of a window of a packed file, and the engines behind them.
 //!
 //! All but the covered read take a byte that is not lent for zero, so a short fetch reads on as code zero, a run of T in
-//! Dna2bit: compare what was fetched with what was asked for, or use [`decode_covered`], which refuses.
+//! Dna2bit: compare what was fetched with what was asked for, or use [`decode_covered`], which refuses. It also refuses a
+//! code of Protein that no symbol has, as a damaged disk leaves it, where the others show X.
 
-use crate::error::accepted;
+use crate::error::{accepted, accepted_or};
 use crate::memory::owned;
 use crate::{raw, Alphabet, Result};
 
-/// The count of a read's answer.
-fn bases(answer: raw::Count) -> Result<usize> {
-    accepted(answer.refusal)?;
-    Ok(answer.count as usize)
+/// What a read answers.
+trait Answer {
+    /// The count of bases, or the refusal with its value.
+    fn bases(self) -> Result<usize>;
+}
+
+impl Answer for raw::Count {
+    fn bases(self) -> Result<usize> {
+        accepted(self.refusal)?;
+        Ok(self.count as usize)
+    }
+}
+
+impl Answer for raw::Covered {
+    fn bases(self) -> Result<usize> {
+        accepted_or(self.refusal, [self.value, 0, 0])?;
+        Ok(self.count as usize)
+    }
 }
 
 /// Defines a read twice: into lent memory, and under the plain name into a `Vec`. The window is given by its two ends.
@@ -22,7 +37,7 @@ macro_rules! reads {
         pub fn $into($($argument: $kind,)* bytes: &[u8], $($number: u64,)* out: &mut [u8]) -> Result<usize> {
             let (from, len, to, room) = (bytes.as_ptr(), bytes.len(), out.as_mut_ptr(), out.len());
             // SAFETY: both memories are lent with their lengths, and `out` is borrowed alone.
-            bases(unsafe { raw::$call($($passed,)* from, len, $($number,)* to, room) })
+            unsafe { raw::$call($($passed,)* from, len, $($number,)* to, room) }.bases()
         }
 
         $(#[$about])*
@@ -36,7 +51,8 @@ macro_rules! reads {
 
 reads! {
     /// The bases from `start` to `end`, not including `end`, of a packed file of which `bytes` are the bytes from
-    /// `byte_offset` on. A window whose end is at most its start is empty. Every byte that is not lent reads as zero.
+    /// `byte_offset` on. A window whose end is at most its start is empty. Every byte that is not lent reads as zero, and a
+    /// code of Protein that no symbol has as X.
     ///
     /// ```
     /// use fantailclock::{decode_substring_from_bytes_at_offset, Alphabet};
@@ -71,8 +87,9 @@ reads! {
     decode_string_from_bytes, decode_string_from_bytes_into
         = fc_decode_string_from_bytes(alphabet: Alphabet => alphabet.number(); seq_len), 0u64, seq_len;
 
-    /// The covered read: the same bases, refused where a byte of the window's range is not lent. This is the read for
-    /// what was fetched from a disk or over a network.
+    /// The covered read: the same bases, refused where a byte of the window's range is not lent, then where a base of the
+    /// window has a code that no symbol has ([`Error::NoSymbol`](crate::Error::NoSymbol) with the first such base, counted
+    /// from 0 at the sequence's start). This is the read for what was fetched from a disk or over a network.
     ///
     /// ```
     /// use fantailclock::{byte_range_for_bases, decode_covered, Alphabet, Error};
@@ -83,6 +100,18 @@ reads! {
     /// let fetched = &file[range.start as usize..range.end as usize];
     /// assert_eq!(decode_covered(alphabet, fetched, range.start, 2, 6)?, b"GTNR");
     /// assert_eq!(decode_covered(alphabet, &fetched[..2], range.start, 2, 6), Err(Error::Uncovered));
+    /// # Ok::<(), Error>(())
+    /// ```
+    ///
+    /// A file of Protein whose second residue was damaged; the zero-filling reads show an X that nobody saw:
+    ///
+    /// ```
+    /// use fantailclock::{decode_covered, decode_string_from_bytes, Alphabet, Error};
+    ///
+    /// let file = [0x07, 0x40]; // codes 0 and 29
+    /// assert_eq!(decode_covered(Alphabet::Protein, &file, 0, 0, 2), Err(Error::NoSymbol { base: 1 }));
+    /// assert_eq!(decode_covered(Alphabet::Protein, &file, 0, 0, 1)?, b"A");
+    /// assert_eq!(decode_string_from_bytes(Alphabet::Protein, &file, 2)?, b"AX");
     /// # Ok::<(), Error>(())
     /// ```
     decode_covered, decode_covered_into

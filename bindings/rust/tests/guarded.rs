@@ -199,7 +199,6 @@ fn reads(alphabet: Alphabet, offset: u64, start: u64) -> Vec<(&'static str, Read
 fn window(harness: &mut Harness, alphabet: Alphabet, file: &[u8], lent: (usize, usize), window: (u64, u64)) {
     let ((from, to), (start, end)) = (lent, window);
     let (bytes, offset) = (&file[from..to], from as u64);
-    let width = model::bits(alphabet);
     let bases = model::unpack(alphabet, bytes, offset, start, end);
     let about = format!("{alphabet}, bases {start} to {end} of bytes {from} to {to}");
     for room in rooms(bases.len()) {
@@ -213,13 +212,12 @@ fn window(harness: &mut Harness, alphabet: Alphabet, file: &[u8], lent: (usize, 
                 call: &|bytes, out| read(alphabet, bytes, offset, start, end, out),
             });
         }
-        let covers = start >= end || from as u64 <= start * width / 8 && (end * width + 7) / 8 <= to as u64;
         harness.check(&Case {
             entry: "fc_decode_covered",
             about: about.clone(),
             input: bytes,
             room,
-            expected: if covers { fitting(&bases, room) } else { Err(Error::Uncovered) },
+            expected: model::covered(alphabet, bytes, offset, start, end, room as u64),
             call: &|bytes, out| decode_covered_into(alphabet, bytes, offset, start, end, out),
         });
     }
@@ -289,19 +287,25 @@ fn windows_and_streams() {
     for alphabet in Alphabet::ALL {
         for len in lengths() {
             let n = len as u64;
-            let file = random.bytes(model::packed_len(alphabet, n) as usize); // every bit, spare ones too
+            let mut files = vec![random.bytes(model::packed_len(alphabet, n) as usize)]; // every bit, spare ones too
+            if alphabet == Alphabet::Protein {
+                // one without codes that no symbol has
+                files.push(model::pack(alphabet, &random.members(alphabet, len)));
+            }
             let start = random.below(n + 1);
             let random_window = (start, start + random.below(n - start + 1));
             for (start, end) in [(0, n), (n / 3, n), (n.min(1), n - n.min(1) / 2), (n / 2, n / 2), random_window] {
                 let range = (start * model::bits(alphabet) / 8, (end * model::bits(alphabet) + 7) / 8);
                 let (from, to) = (range.0 as usize, range.1 as usize);
-                // the window's bytes alone, the whole file, a byte too few at either end, no byte
-                for lent in
-                    [(from, to), (0, file.len()), (from, to.max(from + 1) - 1), ((from + 1).min(to), to), (0, 0)]
-                {
-                    window(&mut harness, alphabet, &file, lent, (start, end));
+                for file in &files {
+                    // the window's bytes alone, the whole file, a byte too few at either end, no byte
+                    for lent in
+                        [(from, to), (0, file.len()), (from, to.max(from + 1) - 1), ((from + 1).min(to), to), (0, 0)]
+                    {
+                        window(&mut harness, alphabet, file, lent, (start, end));
+                    }
+                    stream(&mut harness, alphabet, file, (start, end));
                 }
-                stream(&mut harness, alphabet, &file, (start, end));
             }
         }
     }

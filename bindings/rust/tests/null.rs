@@ -81,8 +81,14 @@ fn reads(alphabet: Alphabet) -> Vec<(bool, Read)> {
     let engine = |call: raw::Engine| -> Read {
         Box::new(move |from, len, end, to, room| unsafe { call(from, len, 0, 0, end, to, room) })
     };
+    let covered = move |from, len, end, to, room| {
+        let raw::Covered { refusal, count, value } =
+            unsafe { raw::fc_decode_covered(a, from, len, 0, 0, end, to, room) };
+        assert_eq!(value, 0, "no base is told but with 18");
+        raw::Count { refusal, count }
+    };
     let mut reads: Vec<(bool, Read)> = vec![
-        (true, window(raw::fc_decode_covered)),
+        (true, Box::new(covered)),
         (false, window(raw::fc_decode_substring_from_bytes_at_offset)),
         (false, window(raw::fc_decode_rolling)),
         (
@@ -115,6 +121,7 @@ fn windows() {
                     assert_eq!(read(from, 0, 0, to, 0), count(0, 0), "an empty window");
                     assert_eq!(read(from, 0, 1, to, 0), count(if covered { 3 } else { 4 }, 0));
                     assert_eq!(read([0x1B, 0x1B].as_ptr(), 2, 2, to, 0), count(4, 0));
+                    assert_eq!(read([0xFF, 0xFF].as_ptr(), 2, 2, to, 0), count(4, 0), "before 18");
                 }
                 let mut memory = PATTERN;
                 let answer = read(from, 0, 9, memory.as_mut_ptr(), 9);

@@ -11,7 +11,9 @@ memory lent to it: alloc is the share of the Rust's best time that allocating an
 and P/(R-a) the ratio without it. Some rows have the port beside itself too, in the same rounds, on a plain text, and
 P/plain is the ratio to that. In a row `folded ..` the port folds a soft-masked text; plain is the same in uppercase,
 not folded, which the Rust gets as well. In a row `bad ..` port and Rust pack nothing but non-members, in a row
-`stray ..` a text with one non-member in its first piece; plain is a text of members.
+`stray ..` a text with one non-member in its first piece; plain is a text of members. In a row `damaged ..` the last
+code of each window is no symbol's, and the port's covered read refuses where the Rust shows X; plain is the same
+windows with no such code.
 ";
 
 /// The columns of the file that --tsv asks for: sizes of one call, times of one call in nanoseconds, ratios of best times.

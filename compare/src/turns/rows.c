@@ -6,7 +6,8 @@
 
 #include "fantailclock.h"
 
-/* Version 1 has no choice to fold, and is asked for no row that does. Versions 2 and 3 differ in fields that no row names. */
+/* Version 1 has no choice to fold, and is asked for no row that does. Versions 2, 3 and 4 differ in fields that no row names, and in the type of what the
+ * covered read answers, which no row keeps. */
 #if FC_ABI_VERSION == 1
 #define FOLDS 0
 #define GUESSER(fold) fc_guesser_new()
@@ -49,21 +50,19 @@ static void decode(const struct work *work) {
     fc_decode_string_from_bytes(work->alphabet, work->packed, work->packed_bytes, work->bases, work->out, work->room);
 }
 
-typedef fc_count read_of(uint64_t alphabet, const uint8_t *bytes, size_t len, uint64_t byte_offset, uint64_t start, uint64_t end, uint8_t *out, size_t room);
-
-/* Windows that start where they were told, each lent the bytes that cover it. */
-static void windows(const struct work *work, read_of *read) {
-    size_t count = windows_of(work->piece);
-    for (size_t k = 0; k < count; k++) {
-        size_t start = work->starts[k], end = start + work->piece;
-        size_t low = start * work->bits / 8, high = (end * work->bits + 7) / 8;
-        read(work->alphabet, work->packed + low, high - low, low, start, end, work->out, work->room);
+/* Windows that start where they were told, each lent the bytes that cover it. A macro, since two reads need not have an answer of one type. */
+#define WINDOWS(row, read) \
+    static void row(const struct work *work) { \
+        size_t count = windows_of(work->piece); \
+        for (size_t k = 0; k < count; k++) { \
+            size_t start = work->starts[k], end = start + work->piece; \
+            size_t low = start * work->bits / 8, high = (end * work->bits + 7) / 8; \
+            read(work->alphabet, work->packed + low, high - low, low, start, end, work->out, work->room); \
+        } \
     }
-}
 
-static void window(const struct work *work) { windows(work, fc_decode_substring_from_bytes_at_offset); }
-
-static void covered(const struct work *work) { windows(work, fc_decode_covered); }
+WINDOWS(window, fc_decode_substring_from_bytes_at_offset)
+WINDOWS(covered, fc_decode_covered)
 
 static void stream(const struct work *work) {
     fc_stream state = fc_stream_new(work->alphabet, 0, work->bases).next;

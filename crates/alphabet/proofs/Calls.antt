@@ -15,7 +15,7 @@ use Rattle.bits.proofs.Tabulated.{is-tabulate}
 use Rattle.bits.proofs.Computed.{both-true}
 use Rattle.alphabet.specs.Questions.{ask_else_then_, Reply, accepted, refused, refusalReply, refusals, tells, firstTelling, by, numberIn}
 use Rattle.alphabet.specs.declared.refusal.Refusal.{Refusal}
-use Rattle.alphabet.specs.declared.refusal.Refusal.the-variants.{Unsound, TooFar, Uncovered, ShortMemory, NonMember, BadSkip, Outstanding, NoAlphabet, TooWide}
+use Rattle.alphabet.specs.declared.refusal.Refusal.the-variants.{Unsound, TooFar, Uncovered, ShortMemory, NonMember, BadSkip, Outstanding, NoAlphabet, TooWide, NoSymbol}
 use Rattle.alphabet.specs.Names.{displayName, nameOf, kinds, numberOf, known, kindOf, namedAt}
 use Rattle.alphabet.specs.Guess.{order, masked, lowest, guessOf, freshGuesser, soundGuesser, guesserAfter, guesserUpdateAt, guessAt}
 use Rattle.alphabet.specs.Answers.{namedReply, namedTold, foldNumber, guesserUpdatedReply, guesserUpdateTold, guessedReply, guessTold}
@@ -47,6 +47,7 @@ is-refused BadSkip = refl
 is-refused (Outstanding bases) = refl
 is-refused NoAlphabet = refl
 is-refused TooWide = refl
+is-refused (NoSymbol base) = refl
 
 -- it is the one that its number and values give: no two have one number
 pub by-itself : (q : Refusal) → let values = valuesIn (refusalReply q) in firstTelling (numberIn (refusalReply q)) values (refusals values) ≡ some q
@@ -59,6 +60,7 @@ by-itself BadSkip = refl
 by-itself (Outstanding bases) = refl
 by-itself NoAlphabet = refl
 by-itself TooWide = refl
+by-itself (NoSymbol base) = refl
 
 -- as many values as a refusal has are its values
 abbrev Made : List ℕ → Refusal → Type 0
@@ -75,7 +77,7 @@ Each P (q ∷ others) = P q × Each P others
 all-made : (values : List ℕ) → Each (Made values) (refusals values)
 unfolding tabulate
 all-made values =
-    let none = these 0 values in (none, (none, (none, (none, (these 3 values, (none, (these 1 values, (none, (none, tt)))))))))
+    let none = these 0 values in (none, (none, (none, (none, (these 3 values, (none, (these 1 values, (none, (none, (these 1 values, tt))))))))))
 
 -- the refusal that definitions write by a number and its values tells just these
 pub by-told : (number : ℕ) (values : List ℕ) (q : Refusal) → firstTelling number values (refusals values) ≡ some q → refusalReply q ≡ refused number values

@@ -1,12 +1,12 @@
 -- Laws of folding one byte: the byte that it stands for, and how a base is told.
 use mathlib.Core.Path.{_≡_, refl, sym, ap, _∙_}
-use mathlib.Core.Bool.{Bool, true, false, cond, not, _||_, _&&_}
+use mathlib.Core.Bool.{Bool, true, false, cond, _||_}
 use Prim.Native.Nat.{ℕ, _-_, _<_, _≤_}
 use native.Mathlib.Omega.{arith}
 use borrow.Author.Tests.{leb-true, le-leb, lt-ltb}
 use lib.Bits.{bitAnd, and-mask}
-use lib.Dec.{T, leb, ltb, eqb}
-use Rattle.bits.proofs.Computed.{below}
+use lib.Dec.{leb, ltb, eqb}
+use Rattle.bits.proofs.Computed.{below, alike, are-alike}
 use Rattle.alphabet.specs.Symbols.{lowercase, upper, canon}
 use Rattle.alphabet.specs.Bases.{base}
 
@@ -99,27 +99,21 @@ module _ (fold : Bool) where
 
 -- ---- a base, told by all bits but the one in which the two cases differ
 
-same : (a b : Bool) → T (cond a b (not b)) → a ≡ b
-same true true t = refl
-same true false t = absurd t
-same false true t = absurd t
-same false false t = refl
-
 abbrev sameBase : ℕ → Bool
 unfolding upper
-sameBase v = cond (base (bitAnd v 0xdf)) (base (upper v)) (not (base (upper v)))
+sameBase v = alike (base (bitAnd v 0xdf)) (base (upper v))
 
 -- A and C are told by one comparison
 abbrev toldBase : ℕ → Bool
 toldBase v = (eqb (bitAnd v 0xfd) 65 || eqb v 71) || eqb v 84
 
 abbrev sameTold : ℕ → Bool
-sameTold v = cond (toldBase v) (base v) (not (base v))
+sameTold v = alike (toldBase v) (base v)
 
 pub base-told : (v : ℕ) → v < 256 → toldBase v ≡ base v
-base-told v h = same (toldBase v) (base v) (below sameTold 256 tt v h)
+base-told v h = are-alike (toldBase v) (base v) (below sameTold 256 tt v h)
 
 pub base-bits : (fold : Bool) (v : ℕ) → v < 256 → base (bitAnd v (cond fold 0xdf 0xff)) ≡ base (canon fold v)
 unfolding upper
-base-bits true v h = same (base (bitAnd v 0xdf)) (base (upper v)) (below sameBase 256 tt v h)
+base-bits true v h = are-alike (base (bitAnd v 0xdf)) (base (upper v)) (below sameBase 256 tt v h)
 base-bits false v h = let e : bitAnd v 0xff ≡ v = and-mask v 8 ∙ omega arith in ap base e

@@ -12,7 +12,7 @@ use lib.Dec.{T, eqb, leb, ltb, eqb→eq, leb→le, ltb→lt, lit≤, lit<}
 use lib.ListN.{length, getD, take, drop, length-map, length-drop}
 use lib.Seq.{getD-take, getD-drop, length-take-le}
 use Rattle.bits.specs.Tables.{at, Bytes, bytesOf}
-use Rattle.bits.proofs.Computed.{passes, below, both, T-true, and-true, and-false}
+use Rattle.bits.proofs.Computed.{passes, below, both, and-true, and-false, alike, are-alike}
 use Rattle.alphabet.specs.declared.kind.AlphabetType.{AlphabetType}
 use Rattle.alphabet.specs.declared.kind.AlphabetType.the-variants.{Dna2bit, Dna3bit, DnaIupac, Protein, Ascii, Unknown}
 use Rattle.alphabet.specs.Symbols.{coded, dna2bit, dna3bit, dnaIupac, protein, symbolOf, codeOf, among, found, InRow, Coding, listed, plain, coding, checkSymbols}
@@ -84,6 +84,8 @@ pub record Lawful (A : Coding) : Type 0 where
   -- a member's code fits the width, and its symbol is what the byte stands for
   pub fits : (v : ℕ) → A .member v ≡ true → A .code v < 2 ^ A .width
   pub back : (v : ℕ) → A .member v ≡ true → A .symbol (A .code v) ≡ A .canon v
+  -- which the list has
+  pub has-symbol : (v : ℕ) → A .member v ≡ true → A .assigned (A .code v) ≡ true
   -- no code belongs to two symbols
   pub one-code : (v w : ℕ) → A .member v ≡ true → A .member w ≡ true → A .code v ≡ A .code w → A .canon v ≡ A .canon w
 
@@ -102,6 +104,7 @@ listed-lawful b pairs other some narrow t =
       byte = λ v m. among-byte b pairs t v m;
       fits = λ v m. found-fits b 0xff pairs t v m;
       back = back;
+      has-symbol = λ v m. found-among symbolOf codeOf 0xff pairs v m;
       one-code = one-of-back (listed b pairs other) back;
     }
 
@@ -114,6 +117,7 @@ plain-lawful =
       byte = λ v m. ltb-true v 256 m;
       fits = λ v m. ltb-true v 256 m;
       back = λ v m. refl;
+      has-symbol = λ v m. m;
       one-code = λ v w m n e. e;
     }
 
@@ -134,6 +138,7 @@ through-lawful f h A l =
       byte = λ v m. h v (l .byte (f v) m);
       fits = λ v m. l .fits (f v) m;
       back = λ v m. l .back (f v) m;
+      has-symbol = λ v m. l .has-symbol (f v) m;
       one-code = λ v w m n e. l .one-code (f v) (f w) m n e;
     }
 
@@ -309,6 +314,7 @@ pub record Taken (fold : Bool) (k : AlphabetType) : Type 0 where
   -- what reads sees no choice
   pub same-width : codingBy fold k .width ≡ coding k .width
   pub same-symbol : (c : ℕ) → codingBy fold k .symbol c ≡ coding k .symbol c
+  pub same-assigned : (c : ℕ) → codingBy fold k .assigned c ≡ coding k .assigned c
   -- a byte has the membership and the code of the byte that it stands for
   pub stands : (v : ℕ) → codingBy fold k .canon v ≡ canon (fold && folds k) v
   pub by-member : (v : ℕ) → codingBy fold k .member v ≡ coding k .member (codingBy fold k .canon v)
@@ -322,6 +328,7 @@ taken fold k =
     record {
       same-width = refl;
       same-symbol = λ c. refl;
+      same-assigned = λ c. refl;
       stands = λ v. itself k (f v);
       by-member = λ v. sym (ap (coding k .member) (itself k (f v)));
       by-code = λ v. sym (ap (coding k .code) (itself k (f v)));
@@ -344,21 +351,36 @@ member-folded true Unknown v = members false .of-unknown (canon true v) ∙ fold
 
 -- ---- assigned codes: no symbol has two, and those of Protein end at 28
 
--- the codes 0 to n - 1 have symbols, each a member, whose code it is
-pub Assigned : Coding → ℕ → Type 0
-Assigned A n = (c : ℕ) → c < n → (A .member (A .symbol c) ≡ true) × (A .code (A .symbol c) ≡ c)
+-- the codes 0 to n - 1 have symbols, each a member, whose code it is; of the codes that the width can write no others are assigned
+pub record Assigned (A : Coding) (n : ℕ) : Type 0 where
+  pub each : (c : ℕ) → c < n → (A .member (A .symbol c) ≡ true) × (A .code (A .symbol c) ≡ c)
+  pub only : (c : ℕ) → c < 2 ^ A .width → A .assigned c ≡ ltb c n
 
-listed-assigned : (b : ℕ) (pairs : List (List ℕ)) (other n : ℕ) → T (checkSymbols b pairs) → ((c : ℕ) → c < n → T (among (map codeOf pairs) c)) → Assigned (listed b pairs other) n
-unfolding listed Assigned
-listed-assigned b pairs other n t h c l =
-    let m : among (map codeOf pairs) c ≡ true = T-true (among (map codeOf pairs) c) (h c l) in
-    (found-among codeOf symbolOf other pairs c m, found-back codeOf symbolOf other 0xff pairs c (symbols-apart b pairs t) m)
+listed-assigned : (b : ℕ) (pairs : List (List ℕ)) (other n : ℕ) → n ≤ 2 ^ b → T (checkSymbols b pairs)
+    → T (passes (λ c. alike (among (map codeOf pairs) c) (ltb c n)) 0 (2 ^ b)) → Assigned (listed b pairs other) n
+unfolding listed
+listed-assigned b pairs other n few t told = record { each = each; only = only }
+  where
+    only : (c : ℕ) → c < 2 ^ b → among (map codeOf pairs) c ≡ ltb c n
+    only c h = are-alike (among (map codeOf pairs) c) (ltb c n) (below (λ c. alike (among (map codeOf pairs) c) (ltb c n)) (2 ^ b) told c h)
+
+    each : (c : ℕ) → c < n
+        → (among (map symbolOf pairs) (found codeOf symbolOf other pairs c) ≡ true) × (found symbolOf codeOf 0xff pairs (found codeOf symbolOf other pairs c) ≡ c)
+    each c h =
+        let m : among (map codeOf pairs) c ≡ true = only c (omega arith) ∙ lt-ltb c n h in
+        (found-among codeOf symbolOf other pairs c m, found-back codeOf symbolOf other 0xff pairs c (symbols-apart b pairs t) m)
+
+plain-assigned : Assigned plain 256
+unfolding plain
+plain-assigned = record { each = λ c h. (lt-ltb c 256 h, refl); only = λ c h. refl }
 
 pub record AssignedCodes : Type 0 where
   pub of-dna2bit : Assigned (coding Dna2bit) 4
   pub of-dna3bit : Assigned (coding Dna3bit) 8
   pub of-dnaIupac : Assigned (coding DnaIupac) 16
   pub of-protein : Assigned (coding Protein) 29
+  pub of-ascii : Assigned (coding Ascii) 256
+  pub of-unknown : Assigned (coding Unknown) 256
   -- unassigned codes decode to X
   pub past-protein : (i : ℕ) → i < 3 → coding Protein .symbol (29 + i) ≡ ascii "X"
 
@@ -366,12 +388,26 @@ pub assigned-codes : AssignedCodes
 unfolding coding listed among found dna2bit dna3bit dnaIupac protein coded bytesOf
 assigned-codes =
     record {
-      of-dna2bit = listed-assigned 2 dna2bit _ 4 (lists-checked .of-dna2bit) (below (among (map codeOf dna2bit)) 4 tt);
-      of-dna3bit = listed-assigned 3 dna3bit _ 8 (lists-checked .of-dna3bit) (below (among (map codeOf dna3bit)) 8 tt);
-      of-dnaIupac = listed-assigned 4 dnaIupac _ 16 (lists-checked .of-dnaIupac) (below (among (map codeOf dnaIupac)) 16 tt);
-      of-protein = listed-assigned 5 protein _ 29 (lists-checked .of-protein) (below (among (map codeOf protein)) 29 tt);
+      of-dna2bit = listed-assigned 2 dna2bit _ 4 (lit≤ tt) (lists-checked .of-dna2bit) tt;
+      of-dna3bit = listed-assigned 3 dna3bit _ 8 (lit≤ tt) (lists-checked .of-dna3bit) tt;
+      of-dnaIupac = listed-assigned 4 dnaIupac _ 16 (lit≤ tt) (lists-checked .of-dnaIupac) tt;
+      of-protein = listed-assigned 5 protein _ 29 (lit≤ tt) (lists-checked .of-protein) tt;
+      of-ascii = plain-assigned;
+      of-unknown = plain-assigned;
       past-protein = λ i h. eqb→eq (coding Protein .symbol (29 + i)) (ascii "X") (below (λ j. eqb (coding Protein .symbol (29 + j)) (ascii "X")) 3 tt i h);
     }
+
+-- so Protein's codes from 29 on are the only ones of all that a list lacks (request A7)
+pub every-assigned : (k : AlphabetType) → (k ≡ Protein → ⊥) → (c : ℕ) → c < 2 ^ coding k .width → coding k .assigned c ≡ true
+every-assigned Dna2bit other c h = assigned-codes .of-dna2bit .only c h ∙ lt-ltb c 4 (rw (widths .of-dna2bit) at h)
+every-assigned Dna3bit other c h = assigned-codes .of-dna3bit .only c h ∙ lt-ltb c 8 (rw (widths .of-dna3bit) at h)
+every-assigned DnaIupac other c h = assigned-codes .of-dnaIupac .only c h ∙ lt-ltb c 16 (rw (widths .of-dnaIupac) at h)
+every-assigned Protein other c h = absurd (other refl)
+every-assigned Ascii other c h = assigned-codes .of-ascii .only c h ∙ lt-ltb c 256 (rw (widths .of-ascii) at h)
+every-assigned Unknown other c h = assigned-codes .of-unknown .only c h ∙ lt-ltb c 256 (rw (widths .of-unknown) at h)
+
+pub protein-assigned : (c : ℕ) → c < 32 → coding Protein .assigned c ≡ ltb c 29
+protein-assigned c h = assigned-codes .of-protein .only c (rw (widths .of-protein) h)
 
 -- ---- UCSC's codes
 

@@ -60,6 +60,8 @@ pub record Coding : Type 0 where
   pub code : ℕ → ℕ
   -- a code's symbol
   pub symbol : ℕ → ℕ
+  -- whether a code is that of a symbol
+  pub assigned : ℕ → Bool
 
 -- the alphabet of b bits that follows from a list: each byte stands for itself, so lowercase letters are no members; codes that the list lacks decode to
 -- `unassigned`
@@ -71,11 +73,12 @@ listed b pairs unassigned =
       member = among (map symbolOf pairs);
       code = found symbolOf codeOf 0xff pairs;
       symbol = found codeOf symbolOf unassigned pairs;
+      assigned = among (map codeOf pairs);
     }
 
 -- the alphabet of all bytes, each its own code
 unfoldable pub plain : Coding
-plain = record { width = 8; canon = λ v. v; member = λ v. ltb v 256; code = λ v. v; symbol = λ c. c }
+plain = record { width = 8; canon = λ v. v; member = λ v. ltb v 256; code = λ v. v; symbol = λ c. c; assigned = λ c. ltb c 256 }
 
 -- the table of alphabets; Unknown is coded as Ascii. The three lists of bases have a symbol for every code of their width: N stands only for codes
 -- that no such width can write, as in the Rust's tables
@@ -129,6 +132,7 @@ through f A =
       member = λ v. A .member (f v);
       code = λ v. A .code (f v);
       symbol = A .symbol;
+      assigned = A .assigned;
     }
 
 -- the coding that texts are packed by, with the caller's choice

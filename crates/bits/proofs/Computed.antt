@@ -1,13 +1,9 @@
 -- A test that is computed at each number below n, and the rule that it gives.
 use mathlib.Core.Path.{_≡_, refl, _∙_, subst, sym}
-use mathlib.Core.Bool.{Bool, true, false, _&&_, true≢false}
+use mathlib.Core.Bool.{Bool, true, false, cond, not, _&&_, true≢false}
 use Prim.Native.Nat.{ℕ, zero, suc, _+_, _<_}
 use native.Mathlib.Nat.{add-zero, zero-add, add-suc, suc-add, le-of-suc-le-suc, not-suc-le-zero}
 use lib.Dec.{T}
-
-pub T-true : (b : Bool) → T b → b ≡ true
-T-true true t = refl
-T-true false t = absurd t
 
 -- both of two tests
 pub both-true : (a b : Bool) → a && b ≡ true → (a ≡ true) × (b ≡ true)
@@ -17,6 +13,16 @@ both-true false b e = absurd (true≢false (sym e))
 pub both : (a b : Bool) → T (a && b) → T a × T b
 both true b t = (tt, t)
 both false b t = absurd t
+
+-- two tests that answer alike
+abbrev pub alike : Bool → Bool → Bool
+alike a b = cond a b (not b)
+
+pub are-alike : (a b : Bool) → T (alike a b) → a ≡ b
+are-alike true true t = refl
+are-alike true false t = absurd t
+are-alike false true t = absurd t
+are-alike false false t = refl
 
 -- a test beside one that always passes, and beside one that never does
 pub and-true : (a : Bool) → a && true ≡ a

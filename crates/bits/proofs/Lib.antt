@@ -6,6 +6,7 @@ pub mod Packed
 pub mod Hand
 pub mod Rolling
 pub mod Blocks
+pub mod Carries
 pub mod Files
 pub mod Put
 pub mod Appended

@@ -1,15 +1,15 @@
 -- The reads' and the stream's calls as numbers, case by case.
 use mathlib.Core.Path.{_≡_, sym, ap, ap₂, _∙_}
-use mathlib.Core.List.{List, []}
+use mathlib.Core.List.{List, [], _∷_}
 use Prim.Native.Nat.{ℕ, _≤_, _<_}
 use borrow.Author.Tests.{le-leb, lt-leb}
 use lib.ListN.{length}
 use Rattle.alphabet.specs.declared.kind.AlphabetType.{AlphabetType}
 use Rattle.alphabet.specs.declared.kind.Named.{Named}
 use Rattle.alphabet.specs.declared.refusal.Refusal.{Refusal}
-use Rattle.alphabet.specs.Questions.{refusalReply, numberIn}
+use Rattle.alphabet.specs.Questions.{Reply, accepted, refusalReply, numberIn, detailIn}
 use Rattle.alphabet.specs.Names.{namedAt}
-use Rattle.alphabet.proofs.Calls.{is-refused, named-kind, named-refused}
+use Rattle.alphabet.proofs.Calls.{named-kind, named-refused}
 use Rattle.windows.specs.declared.read.Read.{Read}
 use Rattle.windows.specs.Answers.{readReply}
 use Rattle.streaming.specs.declared.decoder.Status.{Status}
@@ -22,17 +22,29 @@ use Rattle.streaming.specs.Answers.{streamStartedReply, statusNumber, endedRepl
 use Rattle.fantailclock.specs.declared.streams.State.{State}
 use Rattle.fantailclock.specs.declared.shapes.Details.{Details}
 use Rattle.fantailclock.specs.declared.shapes.Stream.{Stream}
-use Rattle.fantailclock.specs.Shapes.{count, details, ended}
+use Rattle.fantailclock.specs.Shapes.{count, covered, details, ended}
 use Rattle.fantailclock.specs.Streams.{inside, outside, stateOf, streamStarted, streamedBy, streamedFrom, streamed, memoryFrom, streamedMemory, endFrom, endTold}
+use Rattle.fantailclock.proofs.Told.{no-value}
 
 -- ---- reads
 
-pub read-bases : (x : Read) (n : ℕ) → x ≡ Read.Bases n → record { refusal = 0; count = n } ≡ count (readReply x)
-read-bases x n e = ap (λ (y : Read). count (readReply y)) (sym e)
+-- what is told of an answer, in any shape, is told of its case
+module _ {A : Type 0} (tell : Reply → A) (x : Read) where
+  pub read-bases : (n : ℕ) → x ≡ Read.Bases n → tell (accepted (n ∷ [])) ≡ tell (readReply x)
+  read-bases n e = ap (λ (y : Read). tell (readReply y)) (sym e)
 
-pub read-refused : (x : Read) (q : Refusal) (m : ℕ) → x ≡ Read.Refused q → m ≡ numberIn (refusalReply q) → record { refusal = m; count = 0 } ≡ count (readReply x)
-read-refused x q m e h =
-    ap (λ (n : ℕ). record { refusal = n; count = 0 }) h ∙ ap count (sym (is-refused q)) ∙ ap (λ (y : Read). count (readReply y)) (sym e)
+  pub read-refused : (q : Refusal) → x ≡ Read.Refused q → tell (refusalReply q) ≡ tell (readReply x)
+  read-refused q e = ap (λ (y : Read). tell (readReply y)) (sym e)
+
+-- a refusal as numbers: a read's, and the covered read's
+pub count-refused : (q : Refusal) (m : ℕ) → m ≡ numberIn (refusalReply q) → record { refusal = m; count = 0 } ≡ count (refusalReply q)
+count-refused q m h = ap₂ (λ (n k : ℕ). record { refusal = n; count = k }) h (no-value q)
+
+pub covered-refused : (q : Refusal) (m : ℕ) (d : Details) → m ≡ numberIn (refusalReply q) → d ≡ details (refusalReply q)
+    → record { refusal = m; count = 0; value = d .first } ≡ covered (refusalReply q)
+covered-refused q m d h e =
+    ap₂ (λ (n : ℕ) (x : Details). record { refusal = n; count = 0; value = x .first }) h e
+    ∙ ap (λ (k : ℕ). record { refusal = numberIn (refusalReply q); count = k; value = detailIn 0 (refusalReply q) }) (no-value q)
 
 -- ---- the stream's state
 

@@ -26,7 +26,7 @@ use Rattle.packing.specs.declared.range.Range.{Range}
 use Rattle.packing.specs.Range.{rangeAt}
 use Rattle.packing.specs.Answers.{encoderStartedReply, encodedReply, updatedReply, finalizedReply, rangeReply}
 use Rattle.windows.specs.declared.read.Read.{Read}
-use Rattle.windows.specs.Window.{covers, readAt, coveredAt}
+use Rattle.windows.specs.Window.{covers, allAssigned, readAt, coveredAt}
 use Rattle.windows.specs.Answers.{readReply}
 use Rattle.streaming.specs.declared.decoder.StreamingDecoder.{StreamingDecoder}
 use Rattle.streaming.specs.declared.decoder.Status.{Status}
@@ -134,7 +134,8 @@ covered-number n lent offset start end room =
     empty-or tell (ltb start end) _ _ _ refl
     (asked tell (known n) _ _ refl
     (asked tell (inBounds end && inBounds offset) _ _ refl
-    (asked tell (covers (numbered n) lent offset start end) _ _ refl (asked tell (leb (end - start) room) _ _ refl refl))))
+    (asked tell (covers (numbered n) lent offset start end) _ _ refl
+    (asked tell (leb (end - start) room) _ _ refl (asked tell (allAssigned (numbered n) lent offset start end) _ _ refl refl)))))
 
 -- ---- the stream
 

@@ -7,14 +7,13 @@ use lib.Dec.{leb, ltb, eqb}
 use lib.ListN.{length}
 use Rattle.bits.specs.Packing.{bytesFor}
 use Rattle.alphabet.specs.Questions.{inBounds}
-use Rattle.alphabet.specs.Symbols.{Coding}
 use Rattle.alphabet.specs.Names.{known, numbered, numberedBy}
 use Rattle.alphabet.specs.Guess.{soundGuesser}
 use Rattle.alphabet.specs.declared.guesser.AlphabetGuesser.{AlphabetGuesser}
 use Rattle.packing.specs.declared.first.First.{First}
 use Rattle.packing.specs.declared.encoder.SequenceEncoder.{SequenceEncoder}
 use Rattle.packing.specs.Encode.{firstFrom, soundEncoder, pieceBitCount}
-use Rattle.windows.specs.Window.{covers}
+use Rattle.windows.specs.Window.{covers, allAssigned}
 use Rattle.streaming.specs.declared.decoder.StreamingDecoder.{StreamingDecoder}
 use Rattle.streaming.specs.Stream.{soundStream}
 use Rattle.fantailclock.specs.declared.shapes.Guesser.{Guesser}
@@ -69,7 +68,7 @@ askedOfEnd s room = (1 unless soundEncoder s) ∷ (5 unless clean (s .bad .first
 unfoldable pub askedOfRange : ℕ → ℕ → ℕ → List Asked
 askedOfRange start end bits = (9 unless leb bits 8) ∷ (2 unless inBounds start && inBounds end) ∷ []
 
--- 1, 5, 9, of a read whose window is not empty, and 6 before the last of a covered one
+-- 1, 5, 9, of a read whose window is not empty; of a covered one 6 before the last, and request A7's behind it
 unfoldable pub askedOfRead : ℕ → ℕ → ℕ → ℕ → ℕ → List Asked
 askedOfRead alphabet offset start end room =
     cond (ltb start end) ((8 unless known alphabet) ∷ (2 unless inBounds end && inBounds offset) ∷ (4 unless leb (end - start) room) ∷ []) []
@@ -81,6 +80,7 @@ askedOfCovered alphabet lent offset start end room =
     ∷ (2 unless inBounds end && inBounds offset)
     ∷ (3 unless covers (numbered alphabet) lent offset start end)
     ∷ (4 unless leb (end - start) room)
+    ∷ (18 unless allAssigned (numbered alphabet) lent offset start end)
     ∷ [])
     []
 

@@ -5,6 +5,7 @@ use lib.Dec.{eqb}
 use Rattle.alphabet.specs.Questions.{Reply, numberIn, valueIn, detailIn}
 use Rattle.fantailclock.specs.declared.shapes.Number.{Number}
 use Rattle.fantailclock.specs.declared.shapes.Count.{Count}
+use Rattle.fantailclock.specs.declared.shapes.Covered.{Covered}
 use Rattle.fantailclock.specs.declared.shapes.Range.{Range}
 use Rattle.fantailclock.specs.declared.shapes.Packed.{Packed}
 use Rattle.fantailclock.specs.declared.shapes.Ended.{Ended}
@@ -17,6 +18,10 @@ number reply = record { refusal = numberIn reply; value = valueIn 0 reply }
 -- one count
 abbrev pub count : Reply → Count
 count reply = record { refusal = numberIn reply; count = valueIn 0 reply }
+
+-- bases written, or the base whose code is no symbol's
+abbrev pub covered : Reply → Covered
+covered reply = record { refusal = numberIn reply; count = valueIn 0 reply; value = detailIn 0 reply }
 
 -- a byte range
 abbrev pub range : Reply → Range

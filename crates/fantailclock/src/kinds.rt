@@ -15,9 +15,9 @@ ghost use Rattle.fantailclock.specs.Kinds.{bitsTold, containsTold, nameT
 // The version of this boundary; a change of a struct raises it.
 #[no_mangle]
 pub extern "C" fn fc_abi_version() -> u64
-    ensures { λ r. ⌜ r ≡ 3 ⌝ }
+    ensures { λ r. ⌜ r ≡ 4 ⌝ }
 {
-    3
+    4
 }
 
 // The bits per symbol.

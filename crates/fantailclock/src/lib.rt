@@ -27,6 +27,7 @@ pub use reads::fc_decode_string_from_bytes;
 pub use reads::fc_decode_substring_from_bytes;
 pub use reads::fc_decode_substring_from_bytes_at_offset;
 pub use shapes::Count;
+pub use shapes::Covered;
 pub use shapes::Encoder;
 pub use shapes::EncoderStarted;
 pub use shapes::Ended;

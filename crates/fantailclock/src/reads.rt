@@ -1,5 +1,7 @@
 // Reads of windows.
 use crate::shapes::Count;
+use crate::shapes::Covered;
+use crate::shapes::details_of;
 use crate::shapes::number_of;
 use windows::Read;
 use windows::decode_2bit;
@@ -13,7 +15,7 @@ ghost use mathlib.Core.Path.{_≡_};
 ghost use lib.ListN.{length};
 ghost use Rattle.windows.specs.Window.{readAt, readMemory, coveredAt, coveredMemory};
 ghost use Rattle.windows.specs.Answers.{readReply};
-ghost use Rattle.fantailclock.specs.Shapes.{count};
+ghost use Rattle.fantailclock.specs.Shapes.{count, covered};
 
 // A read's answer as numbers.
 fn count_of(read: Read) -> Count
@@ -27,6 +29,24 @@ fn count_of(read: Read) -> Count
         Read::Refused(refusal) => Count {
             refusal: number_of(refusal),
             count: 0,
+        },
+    }
+}
+
+// The same of a covered read, with the base that a refusal by 18 tells.
+fn covered_of(read: Read) -> Covered
+    ensures { λ r. ⌜ r ≡ covered (readReply read) ⌝ }
+{
+    match read {
+        Read::Bases(bases) => Covered {
+            refusal: 0,
+            count: bases as u64,
+            value: 0,
+        },
+        Read::Refused(refusal) => Covered {
+            refusal: number_of(refusal),
+            count: 0,
+            value: details_of(refusal).first,
         },
     }
 }
@@ -76,7 +96,7 @@ pub extern "C" fn fc_decode_string_from_bytes(
     count_of(decode_string_from_bytes(alphabet, bytes, seq_len, out))
 }
 
-// The covered read: refused by 3 where a byte of the window's range is not lent.
+// The covered read: refused by 3 where a byte of the window's range is not lent, and by 18 with the first base whose code is no symbol's.
 #[no_mangle]
 pub extern "C" fn fc_decode_covered(
     alphabet: u64,
@@ -85,11 +105,11 @@ pub extern "C" fn fc_decode_covered(
     start: usize,
     end: usize,
     out: &mut [u8],
-) -> Count
-    ensures { λ r. ⌜ r ≡ count (readReply (coveredAt alphabet (now (bytes .entry)) «byte_offset» start end (length (now (out .entry))))) ⌝ }
+) -> Covered
+    ensures { λ r. ⌜ r ≡ covered (readReply (coveredAt alphabet (now (bytes .entry)) «byte_offset» start end (length (now (out .entry))))) ⌝ }
     ensures memory { λ _. ⌜ now (out .exit) ≡ coveredMemory alphabet (now (bytes .entry)) «byte_offset» start end (now (out .entry)) ⌝ }
 {
-    count_of(decode_covered(alphabet, bytes, byte_offset, start, end, out))
+    covered_of(decode_covered(alphabet, bytes, byte_offset, start, end, out))
 }
 
 // The rolling engine.

@@ -18,6 +18,14 @@ pub struct Count {
     pub count: u64,
 }
 
+// `value` is the base whose code is no symbol's where the refusal is 18, and else 0.
+#[repr(C)]
+pub struct Covered {
+    pub refusal: u64,
+    pub count: u64,
+    pub value: u64,
+}
+
 // A guesser's state; `fold` is 0 or 1.
 #[repr(C)]
 pub struct Guesser {
@@ -131,8 +139,8 @@ pub fn number_of_fold(fold: bool) -> u64
     0
 }
 
-// What a refusal tells beside its number: the first non-member's position and byte and how many there are, or the bases outstanding; zeros where it tells
-// nothing.
+// What a refusal tells beside its number: the first non-member's position and byte and how many there are, or the bases outstanding, or the base whose code is
+// no symbol's; zeros where it tells nothing.
 pub struct Details {
     pub first: u64,
     pub second: u64,
@@ -169,5 +177,10 @@ pub fn details_of(refusal: Refusal) -> Details
         },
         Refusal::NoAlphabet => none,
         Refusal::TooWide => none,
+        Refusal::NoSymbol(base) => Details {
+            first: base as u64,
+            second: 0,
+            third: 0,
+        },
     }
 }

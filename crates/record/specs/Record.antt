@@ -146,7 +146,7 @@ pub record Record : Type 0 where
   -- whatever text it accepts, it packs
   pub encodes : (e : EncodeCall) (count : ℕ) → e .result ≡ Encoded.Wrote count → Packed (alphabetFor e) (foldFor e) (textFor e) (take count (afterwards e))
   -- for s < e ≤ n, each decoder, set to that window and lent the bytes `byte_range_for_bases` names (from 0 to that range's end where byte_offset is fixed at
-  -- 0), returns symbols s to e − 1, whatever the bits outside those symbols' own hold
+  -- 0), returns symbols s to e − 1, whatever the bits outside those symbols' own hold; so the covered read refuses none of these windows, by 18 (request A7) or else
   pub decoders : (l : EncoderList) (w : Window l) (c : DecoderCall) → Set l w c → Gives l w (handed c)
   -- the stream, after every list of its calls, whatever part of those bytes and whatever memory each was lent, has written in all the first k of them
   pub streams : (l : EncoderList) (w : Window l) (t : StreamList) → Streams l w t → StreamGives l w t

@@ -1,6 +1,7 @@
 -- The worked table. States the starred rows of document 01, "Worked table", for each alphabet a row of codes and its name from "Leaf 1", and then rows for what
 -- the words settle and no starred row shows: each status, each bound, and which question comes first where two are answered by no; for request A1 what
--- comes of folding, and for request A5 how non-members are counted. One list of calls and what comes of them, in numbers and texts that are written out.
+-- comes of folding, for request A5 how non-members are counted, for request A7 which codes the covered read refuses. One list of calls and what comes of them, in
+-- numbers and texts that are written out.
 use Prim.Native.Nat.{ℕ}
 use Prim.Native.String.{String}
 use mathlib.Core.Path.{_≡_}
@@ -194,6 +195,7 @@ rows =
     ∷ reads Dna2bit (0x9c ∷ []) 0 6 gives writes (bytesOf "ACGTTT")
     ∷ covers Dna2bit (0x9c ∷ []) 0 6 gives refuses 3 []
     ∷ reads Protein (0xe8 ∷ []) 0 1 gives writes (bytesOf "X")
+    ∷ covers Protein (0xe8 ∷ []) 0 1 gives refuses 18 (0 ∷ [])
     ∷ stream Dna3bit 6 4 (0x05 ∷ []) 4 gives moves 1 "" 1 4 (refused 7 (4 ∷ []))
     -- a row of codes for each alphabet
     ∷ codes Dna2bit keeping "ACGTN" gives bytes (2 ∷ 1 ∷ 3 ∷ 0 ∷ 0xff ∷ [])
@@ -248,6 +250,26 @@ rows =
     ∷ cover 0 [] 0 0 1 0 gives no 3
     ∷ cover 0 (0x9c ∷ []) 0 0 4 3 gives no 4
     ∷ cover 0 (0x80 ∷ []) 1 2 5 9 gives no 3
+    -- codes that Protein's list lacks: the covered read tells the window's first, a zero-filling one shows X
+    ∷ covers Protein (0x07 ∷ 0x40 ∷ []) 0 2 gives refuses 18 (1 ∷ [])
+    ∷ reads Protein (0x07 ∷ 0x40 ∷ []) 0 2 gives writes (bytesOf "AX")
+    ∷ covers Protein (0xf0 ∷ []) 0 1 gives refuses 18 (0 ∷ [])
+    ∷ covers Protein (0xf8 ∷ []) 0 1 gives refuses 18 (0 ∷ [])
+    ∷ covers Protein (0xef ∷ 0x80 ∷ []) 0 2 gives refuses 18 (0 ∷ [])
+    -- 3 and 4 before 18, which is counted from the sequence's start; what stands before the window and behind it is not asked about
+    ∷ cover 3 (0xe8 ∷ []) 0 0 2 9 gives no 3
+    ∷ cover 3 (0xe8 ∷ []) 0 0 1 0 gives no 4
+    ∷ cover 3 (0xe8 ∷ []) 5 8 9 9 gives tells (refused 18 (8 ∷ []))
+    ∷ covers Protein (0x07 ∷ 0x40 ∷ []) 0 1 gives writes (bytesOf "A")
+    ∷ covers Protein (0xe8 ∷ 0x00 ∷ []) 1 2 gives writes (bytesOf "A")
+    -- the list's last code, and X itself; in the other alphabets every code is a symbol's
+    ∷ covers Protein (0xe0 ∷ []) 0 1 gives writes (bytesOf "J")
+    ∷ covers Protein (0xa8 ∷ []) 0 1 gives writes (bytesOf "X")
+    ∷ covers Dna2bit (0xff ∷ []) 0 4 gives writes (bytesOf "GGGG")
+    ∷ covers Dna3bit (0xff ∷ []) 0 2 gives writes (bytesOf "UU")
+    ∷ covers DnaIupac (0xff ∷ []) 0 2 gives writes (bytesOf "VV")
+    ∷ covers Ascii (0x1d ∷ 0x1e ∷ 0xff ∷ []) 0 3 gives writes (0x1d ∷ 0x1e ∷ 0xff ∷ [])
+    ∷ covers Unknown (0x1f ∷ []) 0 1 gives writes (0x1f ∷ [])
     -- starting a stream: a skip below 8; 8 before 6
     ∷ start 0 7 0 gives yes []
     ∷ start 0 8 0 gives no 6

@@ -1,5 +1,6 @@
 // What a call answers, as a row of numbers.
 use fantailclock::Count;
+use fantailclock::Covered;
 use fantailclock::Number;
 use fantailclock::Packed;
 ghost use mathlib.Core.Path.{_≡_};
@@ -50,6 +51,10 @@ pub fn number(takes: usize, answer: Number) -> Answer {
 
 pub fn count(takes: usize, answer: Count) -> Answer {
     two(takes, answer.refusal, answer.count)
+}
+
+pub fn covered(takes: usize, answer: Covered) -> Answer {
+    three(takes, answer.refusal, answer.count, answer.value)
 }
 
 pub fn packed(takes: usize, answer: Packed) -> Answer {

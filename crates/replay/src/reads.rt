@@ -1,6 +1,7 @@
 // Calls of the windows layer.
 use crate::answer::Answer;
 use crate::answer::count;
+use crate::answer::covered;
 use crate::answer::unknown;
 use check::same;
 use fantailclock::fc_decode_2bit;
@@ -59,7 +60,7 @@ pub fn answer(name: &[u8], given: &[u64; 11], bytes: &[u8], out: &mut [u8]) -> A
             fc_decode_substring_from_bytes(alphabet, bytes, second, third, out),
         ),
         3 => count(2, fc_decode_string_from_bytes(alphabet, bytes, second, out)),
-        4 => count(
+        4 => covered(
             4,
             fc_decode_covered(alphabet, bytes, second, third, fourth, out),
         ),

@@ -1,7 +1,7 @@
 -- What an answer says of a call, and what it leaves in memory.
 use mathlib.Core.Path.{_≡_, refl, sym, ap, _∙_}
 use mathlib.Core.Bool.{Bool, true, false, _&&_}
-use mathlib.Core.List.{List, []}
+use mathlib.Core.List.{List, [], _∷_}
 use Prim.Native.Nat.{ℕ, _+_, _-_, _^_, _≤_, _<_}
 use native.Mathlib.Nat.{mul-le-mul-right}
 use native.Mathlib.Omega.{arith}
@@ -17,11 +17,13 @@ use Rattle.alphabet.specs.Questions.{ask_else_then_, by, inBounds}
 use Rattle.alphabet.specs.Symbols.{Coding, coding}
 use Rattle.alphabet.specs.Names.{known, kindOf, numbered}
 use Rattle.alphabet.specs.declared.kind.AlphabetType.{AlphabetType}
+use Rattle.alphabet.specs.declared.kind.AlphabetType.the-variants.{Protein}
 use Rattle.alphabet.specs.declared.refusal.Refusal.{Refusal}
 use Rattle.windows.specs.declared.read.Read.{Read}
-use Rattle.windows.specs.Window.{window, covers, readAt, coveredAt, readWrites}
+use Rattle.windows.specs.Window.{window, covers, firstLacking, allAssigned, readAt, coveredAt, readWrites, readMemory, coveredMemory}
 use Rattle.windows.specs.Workers.{Fits, Passed}
 use Rattle.windows.proofs.Windows.{window-bases}
+use Rattle.windows.proofs.Assigned.{lacking-none, others-pass}
 
 -- ---- an answer with bases passed every question
 
@@ -58,7 +60,8 @@ covered-accepted alphabet lent offset start end room r e n told z =
     let p₃ = passed (inBounds end && inBounds offset) _ _ n refl h (p₂ .1) in
     let p₄ = passed (covers (numbered alphabet) lent offset start end) _ _ n refl h (p₃ .1) in
     let p₅ = passed (leb (end - start) room) _ _ n refl h (p₄ .1) in
-    last start end room n (p₁ .0) (both-true (inBounds end) (inBounds offset) (p₃ .0) .0) (p₅ .0) (p₅ .1)
+    let p₆ = passed (allAssigned (numbered alphabet) lent offset start end) _ _ n refl h (p₅ .1) in
+    last start end room n (p₁ .0) (both-true (inBounds end) (inBounds offset) (p₃ .0) .0) (p₅ .0) (p₆ .1)
 
 -- ---- memory afterwards
 
@@ -161,6 +164,7 @@ module _ (alphabet : ℕ) (lent : List ℕ) (offset start end room : ℕ) (r : R
   besides =
       ask covers (numbered alphabet) lent offset start end else Read.Refused (by 3 []) then
       ask leb (end - start) room else Read.Refused (by 4 []) then
+      ask allAssigned (numbered alphabet) lent offset start end else Read.Refused (by 18 (firstLacking (numbered alphabet) lent offset start end ∷ [])) then
       Read.Bases (end - start)
 
   plain : r ≡ asking (ltb start end) (known alphabet) (inBounds end && inBounds offset) (Read.Bases (end - start))
@@ -188,6 +192,69 @@ module _ (alphabet : ℕ) (lent : List ℕ) (offset start end room : ℕ) (r : R
       go true true false some p = let x : _≡_ {A = ℕ} 0 1 = cc in absurd (omega arith)
       go true false v some p = let x : _≡_ {A = ℕ} 0 1 = cc in absurd (omega arith)
       go false u v some p = p
+
+-- an accepted covered read is answered as a zero-filling one, and leaves the same
+pub covered-agrees : (alphabet : ℕ) (lent : List ℕ) (offset start end room n : ℕ)
+    → coveredAt alphabet lent offset start end room ≡ Read.Bases n → readAt alphabet offset start end room ≡ Read.Bases n
+unfolding coveredAt readAt
+covered-agrees alphabet lent offset start end room n =
+    let A : Coding = numbered alphabet in
+    go (ltb start end) (known alphabet) (inBounds end && inBounds offset) (covers A lent offset start end) (leb (end - start) room) (allAssigned A lent offset start end)
+  where
+    bases : Read
+    bases = Read.Bases (end - start)
+
+    -- by the answers to the questions
+    go : (t u v w x y : Bool)
+        → asking t u v
+        (ask w else Read.Refused (by 3 []) then
+        ask x else Read.Refused (by 4 []) then
+        ask y else Read.Refused (by 18 (firstLacking (numbered alphabet) lent offset start end ∷ [])) then
+        bases)
+        ≡ Read.Bases n
+        → asking t u v (ask x else Read.Refused (by 4 []) then bases) ≡ Read.Bases n
+    go false u v w x y e = e
+    go true false v w x y e = e
+    go true true false w x y e = e
+    go true true true true false y e = e
+    go true true true true true true e = e
+    go true true true true true false e = let z : _≡_ {A = ℕ} 0 1 = cc in absurd (omega arith)
+    go true true true false x y e = let z : _≡_ {A = ℕ} 0 1 = cc in absurd (omega arith)
+
+pub covered-leaves : (alphabet : ℕ) (lent : List ℕ) (offset start end : ℕ) (memory : List ℕ) (n : ℕ)
+    → coveredAt alphabet lent offset start end (length memory) ≡ Read.Bases n
+    → coveredMemory alphabet lent offset start end memory ≡ readMemory alphabet lent offset start end memory
+unfolding coveredMemory readMemory
+covered-leaves alphabet lent offset start end memory n e =
+    ap (λ (x : Read). front (readWrites alphabet lent offset start x) memory) (e ∙ sym (covered-agrees alphabet lent offset start end (length memory) n e))
+
+-- in every alphabet but Protein a covered read is answered as before request A7
+pub other-alphabets : (alphabet : ℕ) → (kindOf alphabet ≡ Protein → ⊥) → (lent : List ℕ) (offset start end room : ℕ)
+    → coveredAt alphabet lent offset start end room
+    ≡ asking (ltb start end) (known alphabet) (inBounds end && inBounds offset)
+    (ask covers (numbered alphabet) lent offset start end else Read.Refused (by 3 []) then
+    ask leb (end - start) room else Read.Refused (by 4 []) then
+    Read.Bases (end - start))
+unfolding coveredAt
+other-alphabets alphabet other lent offset start end room = go (ltb start end) refl
+  where
+    A : Coding
+    A = numbered alphabet
+
+    asks : Bool → Bool → Read
+    asks t y =
+        asking t (known alphabet) (inBounds end && inBounds offset)
+        (ask covers A lent offset start end else Read.Refused (by 3 []) then
+        ask leb (end - start) room else Read.Refused (by 4 []) then
+        ask y else Read.Refused (by 18 (firstLacking A lent offset start end ∷ [])) then
+        Read.Bases (end - start))
+
+    go : (t : Bool) → ltb start end ≡ t → asks t (allAssigned A lent offset start end) ≡ asks t true
+    go false e = refl
+    go true e =
+        let order : start ≤ end = omega (arith, ltb-true start end e) in
+        let none : firstLacking A lent offset start end ≡ end = lacking-none A lent offset (others-pass (kindOf alphabet) other lent offset start end order) in
+        ap (asks true) (le-leb end (firstLacking A lent offset start end) (omega (arith, none)))
 
 -- a window that is not empty, of n bases, whose alphabet has a number and whose positions are in bounds
 pub record Placed (alphabet offset start end n : ℕ) : Type 0 where
@@ -223,6 +290,18 @@ module _ {alphabet offset start end n : ℕ} (w : Placed alphabet offset start e
       unfolding coveredAt
       covered-short h = rw (w .some, w .named, w .near, all, lt-leb (end - start) room (omega (arith, w .count)))
 
-      pub covered-bases : n ≤ room → Read.Bases n ≡ coveredAt alphabet lent offset start end room
-      unfolding coveredAt
-      covered-bases h = ap Read.Bases (sym (w .count)) ∙ rw (w .some, w .named, w .near, all, le-leb (end - start) room (omega (arith, w .count)))
+      module _ (space : n ≤ room) (first : ℕ) (told : first ≡ firstLacking (numbered alphabet) lent offset start end) where
+        enough : leb (end - start) room ≡ true
+        enough = le-leb (end - start) room (omega (arith, w .count))
+
+        pub covered-lacking : first < end → Read.Refused (by 18 (first ∷ [])) ≡ coveredAt alphabet lent offset start end room
+        unfolding coveredAt
+        covered-lacking h =
+            ap (λ (i : ℕ). Read.Refused (by 18 (i ∷ []))) told
+            ∙ rw (w .some, w .named, w .near, all, enough, lt-leb end (firstLacking (numbered alphabet) lent offset start end) (rw (← told) h))
+
+        pub covered-bases : end ≤ first → Read.Bases n ≡ coveredAt alphabet lent offset start end room
+        unfolding coveredAt
+        covered-bases h =
+            ap Read.Bases (sym (w .count))
+            ∙ rw (w .some, w .named, w .near, all, enough, le-leb end (firstLacking (numbered alphabet) lent offset start end) (rw (← told) h))

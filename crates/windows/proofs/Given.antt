@@ -14,11 +14,13 @@ use Rattle.bits.specs.Packing.{pack, fileByte, firstByte, endByte}
 use Rattle.bits.specs.Memory.{front}
 use Rattle.alphabet.specs.Questions.{limit, inBounds}
 use Rattle.alphabet.specs.Symbols.{Coding}
-use Rattle.alphabet.specs.Names.{known, kindOf, numberedBy}
+use Rattle.alphabet.specs.Names.{known, kindOf, numbered, numberedBy}
 use Rattle.alphabet.proofs.Laws.{lawful}
 use Rattle.windows.specs.declared.read.Read.{Read}
-use Rattle.windows.specs.Window.{window, covers, readAt, coveredAt, readWrites, readMemory, coveredMemory}
+use Rattle.windows.specs.Window.{window, covers, firstLacking, allAssigned, readAt, coveredAt, readWrites, readMemory, coveredMemory}
+use Rattle.windows.specs.Workers.{Passes}
 use Rattle.windows.proofs.Windows.{window-of-text}
+use Rattle.windows.proofs.Assigned.{text-passes, lacking-none}
 
 -- bytes lent for the window from s to e of a text: they begin no later than the window's range, and the bits of the window's symbols are the packing's
 pub record Serves (A : Coding) (text lent : List ℕ) (offset s e : ℕ) : Type 0 where
@@ -65,9 +67,18 @@ module _ (fold : Bool) (alphabet : ℕ) (text lent : List ℕ) (offset s e : ℕ
       unfolding covers
       covering = rw (le-leb offset (firstByte (A .width) s) (serves .begins), le-leb (endByte (A .width) e) (offset + length lent) ends)
 
+      -- a member's code is a symbol's, so that a window of what was packed is never refused by 18
+      passes : Passes (numbered alphabet) lent offset s e e
+      passes =
+          let p = text-passes A (lawful fold (kindOf alphabet)) text lent offset s e (omega (arith, serves .some)) (serves .inside) (serves .members) (serves .own) in
+          record { from = p .from; to = p .to; each = p .each }
+
+      pub never-lacking : allAssigned (numbered alphabet) lent offset s e ≡ true
+      never-lacking = le-leb e (firstLacking (numbered alphabet) lent offset s e) (omega (arith, lacking-none (numbered alphabet) lent offset passes))
+
       pub covered-told : coveredAt alphabet lent offset s e (length memory) ≡ Read.Bases (e - s)
       unfolding coveredAt covers
-      covered-told = rw (lt-ltb s e (serves .some), named, near, covering, le-leb (e - s) (length memory) room)
+      covered-told = rw (lt-ltb s e (serves .some), named, near, covering, le-leb (e - s) (length memory) room, never-lacking)
 
       pub covered-left : coveredMemory alphabet lent offset s e memory ≡ front symbols memory
       unfolding coveredMemory readWrites window

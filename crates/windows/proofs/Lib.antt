@@ -1,4 +1,5 @@
 pub mod Windows
+pub mod Assigned
 pub mod Turns
 pub mod WholeBytes
 pub mod AllBytes

@@ -85,7 +85,23 @@ window-own A lent lent′ offset offset′ start n own =
     own ((start + i) * b + t) (omega (arith, add-mul start i b)) (omega (arith, add-mul start i b, add-mul start n b, up, suc-mul i b))))
     ∙ sym (window-bases A lent′ offset′ start n)
 
--- a window of a packed text gives the text's symbols back, where the file's bits are the packing's at the window's bases and these are members
+-- a window of a packed text has the codes of the text's symbols, where the file's bits are the packing's at the window's bases and these are members
+pub codes-of-text : (A : Coding) → Lawful A → (text lent : List ℕ) (offset start n : ℕ)
+    → start + n ≤ length text
+    → ((i : ℕ) → i < n → A .member (at text (start + i)) ≡ true)
+    → ((k : ℕ) → start * A .width ≤ k → k < (start + n) * A .width → bitAt 8 (fileByte lent offset) k ≡ bitAt 8 (at (pack (A .width) (map (A .code) text))) k)
+    → codesFrom (A .width) lent offset start n ≡ tabulate n (λ i. A .code (at text (start + i)))
+codes-of-text A law text lent offset start n room members own =
+    let b : ℕ = A .width in
+    let coded : (i : ℕ) → i < n → at (map (A .code) text) (start + i) % 2 ^ b ≡ A .code (at text (start + i)) = λ i h.
+    let v : ℕ = at text (start + i) in
+    let code : at (map (A .code) text) (start + i) ≡ A .code v =
+    getD-within (map (A .code) text) (start + i) 0 (A .code 0) (rw (length-map text (A .code)) (omega arith)) ∙ List·getD-map (A .code) text (start + i) 0 in
+    ap (λ (x : ℕ). x % 2 ^ b) code ∙ mod-eq-of-lt (law .fits v (members i h)) in
+    codes-of-pack b (map (A .code) text) lent offset start n (rw (length-map text (A .code)) room) own
+    ∙ tabulate-ext n (λ i. at (map (A .code) text) (start + i) % 2 ^ b) (λ i. A .code (at text (start + i))) coded
+
+-- and so it gives the symbols back
 pub window-of-text : (A : Coding) → Lawful A → (text lent : List ℕ) (offset start n : ℕ)
     → start + n ≤ length text
     → ((i : ℕ) → i < n → A .member (at text (start + i)) ≡ true)
@@ -93,19 +109,13 @@ pub window-of-text : (A : Coding) → Lawful A → (text lent : List ℕ) (offse
     → window A lent offset start n ≡ map (A .canon) (take n (drop start text))
 unfolding window
 window-of-text A law text lent offset start n room members own =
-    let b : ℕ = A .width in
     let part : List ℕ = take n (drop start text) in
     let len : length part ≡ n = length-take-le n (drop start text) (omega (arith, length-drop start text)) in
-    let coded : (i : ℕ) → i < n → A .symbol (at (map (A .code) text) (start + i) % 2 ^ b) ≡ A .canon (at text (start + i)) = λ i h.
-    let v : ℕ = at text (start + i) in
-    let code : at (map (A .code) text) (start + i) ≡ A .code v =
-    getD-within (map (A .code) text) (start + i) 0 (A .code 0) (rw (length-map text (A .code)) (omega arith)) ∙ List·getD-map (A .code) text (start + i) 0 in
-    ap (λ (x : ℕ). A .symbol (x % 2 ^ b)) code ∙ ap (A .symbol) (mod-eq-of-lt (law .fits v (members i h))) ∙ law .back v (members i h) in
     let given : (i : ℕ) → i < n → getD (map (A .canon) part) i (A .canon 0) ≡ A .canon (at text (start + i)) = λ i h.
     List·getD-map (A .canon) part i 0 ∙ ap (A .canon) (getD-take n (drop start text) i 0 h ∙ getD-drop start text i 0) in
-    ap (map (A .symbol)) (codes-of-pack b (map (A .code) text) lent offset start n (rw (length-map text (A .code)) room) own)
-    ∙ map-tabulate (A .symbol) (λ i. at (map (A .code) text) (start + i) % 2 ^ b) n
-    ∙ tabulate-ext n (λ i. A .symbol (at (map (A .code) text) (start + i) % 2 ^ b)) (λ i. A .canon (at text (start + i))) coded
+    ap (map (A .symbol)) (codes-of-text A law text lent offset start n room members own)
+    ∙ map-tabulate (A .symbol) (λ i. A .code (at text (start + i))) n
+    ∙ tabulate-ext n (λ i. A .symbol (A .code (at text (start + i)))) (λ i. A .canon (at text (start + i))) (λ i h. law .back (at text (start + i)) (members i h))
     ∙ sym (is-tabulate n (λ i. A .canon (at text (start + i))) (A .canon 0) (map (A .canon) part) (length-map part (A .canon) ∙ len) given)
 
 before-byte : (s k offset : ℕ) → s ≤ k → offset ≤ s / 8 → offset ≤ k / 8

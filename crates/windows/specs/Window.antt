@@ -1,9 +1,9 @@
--- Windows. States document 01, "Middle: windows", and questions 1, 5, 6 and 9 for reads.
+-- Windows. States document 01, "Middle: windows", questions 1, 5, 6 and 9 for reads, and request A7 for the covered read.
 -- Every zero-filling read is `readAt` and `readMemory`: `decode_rolling` and `decode_substring_from_bytes_at_offset` as they stand, `decode_2bit` and
 -- `decode_3bit` with their own alphabet's number, `decode_substring_from_bytes` with offset 0, `decode_string_from_bytes` with offset and start 0.
-use Prim.Native.Nat.{ℕ, _+_, _-_}
-use mathlib.Core.Bool.{Bool, _&&_}
-use mathlib.Core.List.{List, [], map}
+use Prim.Native.Nat.{ℕ, suc, _+_, _-_}
+use mathlib.Core.Bool.{Bool, cond, _&&_}
+use mathlib.Core.List.{List, [], _∷_, map}
 use lib.Dec.{leb, ltb}
 use lib.ListN.{length}
 use Rattle.bits.specs.Packing.{codesFrom, firstByte, endByte}
@@ -21,6 +21,19 @@ window A lent offset start n = map (A .symbol) (codesFrom (A .width) lent offset
 unfoldable pub covers : Coding → List ℕ → ℕ → ℕ → ℕ → Bool
 covers A lent offset start end = leb offset (firstByte (A .width) start) && leb (endByte (A .width) end) (offset + length lent)
 
+-- how many of a list's codes stand before the first that the alphabet's own list lacks; all of them where it lacks none
+unfoldable pub assignedFront : Coding → List ℕ → ℕ
+assignedFront A [] = 0
+assignedFront A (c ∷ codes) = cond (A .assigned c) (suc (assignedFront A codes)) 0
+
+-- the first base of a window whose code the alphabet's own list lacks, counted from 0 at the sequence's start; the window's end where it lacks none
+unfoldable pub firstLacking : Coding → List ℕ → ℕ → ℕ → ℕ → ℕ
+firstLacking A lent offset start end = start + assignedFront A (codesFrom (A .width) lent offset start (end - start))
+
+-- request A7's question: the alphabet's own list has the code of every base of a window
+abbrev pub allAssigned : Coding → List ℕ → ℕ → ℕ → ℕ → Bool
+allAssigned A lent offset start end = leb end (firstLacking A lent offset start end)
+
 -- ---- a zero-filling read
 
 -- an empty window is answered at once; else asked: alphabet number, end and offset, memory for the bases
@@ -34,7 +47,7 @@ readAt alphabet offset start end room =
 
 -- ---- the covered read
 
--- the same, and before the memory every byte of the window's range
+-- the same, before the memory every byte of the window's range, and behind it every base's code
 unfoldable pub coveredAt : ℕ → List ℕ → ℕ → ℕ → ℕ → ℕ → Read
 coveredAt alphabet lent offset start end room =
     ask ltb start end else Read.Bases 0 then
@@ -42,6 +55,7 @@ coveredAt alphabet lent offset start end room =
     ask inBounds end && inBounds offset else Read.Refused (by 2 []) then
     ask covers (numbered alphabet) lent offset start end else Read.Refused (by 3 []) then
     ask leb (end - start) room else Read.Refused (by 4 []) then
+    ask allAssigned (numbered alphabet) lent offset start end else Read.Refused (by 18 (firstLacking (numbered alphabet) lent offset start end ∷ [])) then
     Read.Bases (end - start)
 
 -- ---- memory

@@ -1,10 +1,12 @@
 -- What the private functions of this crate ask and say; no public contract cites it.
 use mathlib.Core.Path.{_≡_}
 use mathlib.Core.List.{List, map}
-use Prim.Native.Nat.{ℕ, _+_, _*_, _%_, _^_, _≤_}
+use Prim.Native.Nat.{ℕ, _+_, _*_, _%_, _^_, _≤_, _<_}
+use mathlib.Core.Bool.{true}
+use lib.ListN.{length}
 use Rattle.bits.specs.Tables.{tabulate, at}
 use Rattle.bits.specs.Streams.{bitAt, word, fields}
-use Rattle.bits.specs.Packing.{fileByte}
+use Rattle.bits.specs.Packing.{fileByte, firstByte, endByte}
 use Rattle.alphabet.specs.Symbols.{Coding}
 use Rattle.alphabet.specs.Names.{kindOf}
 use Rattle.alphabet.specs.declared.kind.AlphabetType.{AlphabetType}
@@ -17,6 +19,23 @@ use Rattle.windows.specs.declared.rolling.Held.{Held}
 pub record Fits (start count from room : ℕ) : Type 0 where
   pub near : start + count ≤ 2 ^ 60
   pub space : from + count ≤ room
+
+-- a window, or the rest of one, whose end is near
+pub record Near (start end : ℕ) : Type 0 where
+  pub order : start ≤ end
+  pub far : end ≤ 2 ^ 60
+
+-- a window of Protein, or the rest of one, whose bytes are lent
+pub record Lent (lent : List ℕ) (offset start end : ℕ) : Type 0 where
+  pub near : Near start end
+  pub begins : offset ≤ firstByte 5 start
+  pub ends : endByte 5 end ≤ offset + length lent
+
+-- base `at` is reached from `start` over bases whose codes the alphabet's own list has
+pub record Passes (A : Coding) (lent : List ℕ) (offset start at end : ℕ) : Type 0 where
+  pub from : start ≤ at
+  pub to : at ≤ end
+  pub each : (i : ℕ) → start ≤ i → i < at → A .assigned (word (bitAt 8 (fileByte lent offset)) (i * A .width) (A .width)) ≡ true
 
 -- the bases that an answer promises, if any, fit
 abbrev pub Passed : Read → ℕ → ℕ → Type 0

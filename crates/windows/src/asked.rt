@@ -1,4 +1,5 @@
 // The questions of a read, in their order.
+use crate::lacking::first_lacking;
 use crate::read::Read;
 use alphabet::AlphabetType;
 use alphabet::Named;
@@ -44,7 +45,8 @@ pub fn asked(alphabet: u64, offset: usize, start: usize, end: usize, room: usize
     Read::Bases(end - start)
 }
 
-// The answer of a covered read: what a zero-filling one asks, memory aside, and question 6 before the memory. Memory of `end` bytes is never too short.
+// The answer of a covered read: what a zero-filling one asks, memory aside, question 6 before the memory, and behind it whether every code is a symbol's. Memory
+// of `end` bytes is never too short.
 pub fn asked_covered(
     alphabet: u64,
     bytes: &[u8],
@@ -62,7 +64,8 @@ pub fn asked_covered(
     if count == 0 {
         return plain;
     }
-    let b = kind_of(alphabet).bits_per_symbol();
+    let kind = kind_of(alphabet);
+    let b = kind.bits_per_symbol();
     if start * b / 8 < offset {
         return Read::Refused(Refusal::Uncovered);
     }
@@ -71,6 +74,10 @@ pub fn asked_covered(
     }
     if room < count {
         return Read::Refused(Refusal::ShortMemory);
+    }
+    let first = first_lacking(kind, bytes, offset, start, end);
+    if first < end {
+        return Read::Refused(Refusal::NoSymbol(first));
     }
     plain
 }

@@ -16,15 +16,16 @@ ghost use Rattle.alphabet.specs.declared.kind.AlphabetType.the-variants.{Dna3bi
 ghost use Rattle.windows.specs.Window.{window};
 ghost use Rattle.windows.specs.Workers.{Fits, Decodes, symbolsOf};
 
-// The number that three bytes write.
-fn three(bytes: &[u8], i: usize) -> u64
-    requires { ⌜ i + 3 ≤ length (now bytes) ⌝ }
-    ensures { λ r. ⌜ r ≡ word (bitAt 8 (at (now (bytes .entry)))) (i * 8) (3 * 8) ⌝ }
+// The number that n bytes write, at most eight.
+pub fn number(bytes: &[u8], i: usize, n: usize) -> u64
+    requires { ⌜ (n ≤ 8) × (i + n ≤ length (now bytes)) ⌝ }
+    ensures { λ r. ⌜ r ≡ word (bitAt 8 (at (now (bytes .entry)))) (i * 8) (n * 8) ⌝ }
 {
-    push_byte(
-        push_byte(push_byte(0, bytes[i]), bytes[i + 1]),
-        bytes[i + 2],
-    )
+    let mut all: u64 = 0;
+    for j in 0..n {
+        all = push_byte(all, bytes[i + j]);
+    }
+    all
 }
 
 // The eight symbols of a number, written from place k on.
@@ -65,7 +66,7 @@ fn blocks(
         if bytes.len() < i + 3 {
             return n;
         }
-        eight(table, three(bytes, i), out, from + n * 8);
+        eight(table, number(bytes, i, 3), out, from + n * 8);
         n += 1;
     }
     n

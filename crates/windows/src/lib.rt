@@ -2,6 +2,7 @@
 mod asked;
 mod blocks;
 mod fours;
+mod lacking;
 mod plain;
 mod read;
 mod rolling;

@@ -1,4 +1,5 @@
-// The reads of a window. All but the covered read take any byte that is not lent for zero, and all that read one alphabet give one answer.
+// The reads of a window. All but the covered read take any byte that is not lent for zero, and all that read one alphabet give one answer; the covered read gives
+// it, or refuses.
 use crate::asked::asked;
 use crate::asked::asked_covered;
 use crate::asked::kind_of;
@@ -163,7 +164,8 @@ pub fn decode_string_from_bytes(alphabet: u64, bytes: &[u8], seq_len: usize, out
     decode_substring_from_bytes(alphabet, bytes, 0, seq_len, out)
 }
 
-// The covered read: the same bases, where every byte of the window's range is lent; else refused by 3.
+// The covered read: the same bases, where every byte of the window's range is lent and every base's code is a symbol's; else refused by 3, and by 18 with the
+// first base that has none.
 pub fn decode_covered(
     alphabet: u64,
     bytes: &[u8],

@@ -6,6 +6,7 @@ ghost use mathlib.Core.Path.{_≡_};
 ghost use Prim.Native.Nat.{ℕ, _+_, _*_, _^_, _<_, _≤_};
 ghost use lib.ListN.{length};
 ghost use Rattle.bits.specs.Memory.{putAt};
+ghost use Rattle.bits.specs.Streams.{bitAt, word};
 ghost use Rattle.bits.specs.Packing.{fileByte};
 ghost use Rattle.alphabet.specs.Symbols.{coding};
 ghost use Rattle.windows.specs.Window.{window};
@@ -70,6 +71,16 @@ fn refill(bytes: &[u8], offset: usize, held: Held, b: usize) -> Held
         };
     }
     held
+}
+
+// The code of the b bits from bit `bit` of the file on.
+pub fn code_at(bytes: &[u8], offset: usize, bit: usize, b: usize) -> usize
+    requires { ⌜ (bit ≤ 2 ^ 63) × (b ≤ 8) ⌝ }
+    ensures { λ r. ⌜ r ≡ word (bitAt 8 (fileByte (now (bytes .entry)) offset)) bit b ⌝ }
+{
+    let held = refill(bytes, offset, prime(bytes, offset, bit), b);
+    let have = held.have - b;
+    field(held.acc, have, b)
 }
 
 // `count` bases from base `start` on, written from place `from` on. The table is the alphabet's.

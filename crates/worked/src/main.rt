@@ -54,6 +54,10 @@ fn print_refusal(refusal: Refusal) {
             print_number(bases);
             print(b" outstanding");
         }
+        Refusal::NoSymbol(base) => {
+            print(b"18, base ");
+            print_number(base as u64);
+        }
         other => print_number(other.number() as u64),
     }
     print(b"\n");
@@ -176,6 +180,24 @@ fn windows() {
     print_read(b"end 2^60 + 1: ", farther, &out);
 }
 
+// Codes that Protein's list lacks: a zero-filling read shows X, the covered read tells the first of them.
+fn residues() {
+    let mut out = [0xAA; 9];
+    let damaged = [0xE8u8];
+    let shown = coder::decode_string_from_bytes(3, &damaged, 1, &mut out);
+    print_read(b"e8, Protein, 0 to 1: ", shown, &out);
+    let refused = coder::decode_covered(3, &damaged, 0, 0, 1, &mut out);
+    print_read(b"covered: ", refused, &out);
+    let bytes = [0x07u8, 0x40];
+    let second = coder::decode_covered(3, &bytes, 0, 0, 2, &mut out);
+    print_read(b"07 40, Protein, 0 to 2, covered: ", second, &out);
+    let first = coder::decode_covered(3, &bytes, 0, 0, 1, &mut out);
+    print_read(b"0 to 1, covered: ", first, &out);
+    let unknown = [0xA8u8];
+    let seen = coder::decode_covered(3, &unknown, 0, 0, 1, &mut out);
+    print_read(b"a8, Protein, 0 to 1, covered: ", seen, &out);
+}
+
 fn print_status(status: Status) {
     match status {
         Status::Hungry => print(b"Hungry\n"),
@@ -223,5 +245,6 @@ fn main() {
     folding();
     counting();
     windows();
+    residues();
     stream();
 }

@@ -110,13 +110,38 @@ pub fn updated(state: &raw::Encoder, piece: &[u8]) -> (Vec<u8>, raw::Encoder) {
     (written, next)
 }
 
-/// The bases from `start` to `end` of a file of which `bytes` are those from `offset` on; other bytes are zero.
-pub fn unpack(alphabet: Alphabet, bytes: &[u8], offset: u64, start: u64, end: u64) -> Vec<u8> {
-    let (list, width) = (symbols(alphabet), bits(alphabet));
+/// The codes of the bases from `start` to `end` of a file of which `bytes` are those from `offset` on; other bytes are zero.
+pub fn codes(alphabet: Alphabet, bytes: &[u8], offset: u64, start: u64, end: u64) -> Vec<usize> {
+    let width = bits(alphabet);
     let bit = |place: u64| match (place / 8).checked_sub(offset).and_then(|at| bytes.get(at as usize)) {
         Some(byte) => usize::from(byte >> (7 - place % 8) & 1),
         None => 0,
     };
-    let code = |base: u64| (0..width).fold(0, |code, at| code << 1 | bit(base * width + at));
-    (start..end).map(|base| list.get(code(base)).copied().unwrap_or(b'X')).collect()
+    (start..end).map(|base| (0..width).fold(0, |code, at| code << 1 | bit(base * width + at))).collect()
+}
+
+/// The bases that they stand for, X for a code that the alphabet's list lacks.
+pub fn unpack(alphabet: Alphabet, bytes: &[u8], offset: u64, start: u64, end: u64) -> Vec<u8> {
+    let list = symbols(alphabet);
+    codes(alphabet, bytes, offset, start, end).into_iter().map(|code| *list.get(code).unwrap_or(&b'X')).collect()
+}
+
+/// The same for the covered read, into memory of `room` bytes: question by question.
+pub fn covered(alphabet: Alphabet, bytes: &[u8], offset: u64, start: u64, end: u64, room: u64) -> Result<Vec<u8>> {
+    let far = 1 << 60;
+    if end <= start {
+        return Ok(vec![]);
+    }
+    if end > far || offset > far {
+        return Err(Error::TooFar);
+    }
+    if start * bits(alphabet) / 8 < offset || offset + (bytes.len() as u64) < packed_len(alphabet, end) {
+        return Err(Error::Uncovered);
+    }
+    if room < end - start {
+        return Err(Error::ShortMemory);
+    }
+    let list = symbols(alphabet);
+    let symbol = |(base, code): (u64, usize)| list.get(code).copied().ok_or(Error::NoSymbol { base });
+    (start..end).zip(codes(alphabet, bytes, offset, start, end)).map(symbol).collect()
 }

@@ -25,8 +25,8 @@ enum-told-4 c = search needs
 enum-known-refusal : tie.Need-enum-known-refusal
 enum-known-refusal c = search needs
 
-cast-t9 : tie.Need-cast-t9
-cast-t9 c = search needs
+cast-t10 : tie.Need-cast-t10
+cast-t10 c = search needs
 
 enum-told-5 : tie.Need-enum-told-5
 enum-told-5 c = search needs
@@ -39,6 +39,9 @@ enum-told-6 c = search needs
 
 enum-told-7 : tie.Need-enum-told-7
 enum-told-7 c = search needs
+
+enum-known-refusal-3 : tie.Need-enum-known-refusal-3
+enum-known-refusal-3 c = search needs
 
 returns : tie.Need-returns
 returns c = found (c .enum-told .given .1)
@@ -67,6 +70,9 @@ returns-8 c = found (c .enum-told6 .given .1)
 returns-9 : tie.Need-returns-9
 returns-9 c = found (c .enum-told7 .given .1)
 
+returns-10 : tie.Need-returns-10
+returns-10 c = found (c .before .refusal3 .given .1)
+
 pub details-of-spec : {M : Type 1} → statement M
 details-of-spec =
     tie.close
@@ -76,11 +82,12 @@ details-of-spec =
     enum-told-3
     enum-told-4
     enum-known-refusal
-    cast-t9
+    cast-t10
     enum-told-5
     enum-known-refusal-2
     enum-told-6
     enum-told-7
+    enum-known-refusal-3
     returns
     returns-2
     returns-3
@@ -89,4 +96,5 @@ details-of-spec =
     returns-6
     returns-7
     returns-8
-    returns-9)
+    returns-9
+    returns-10)

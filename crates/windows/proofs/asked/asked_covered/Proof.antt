@@ -8,10 +8,11 @@ use Rattle.alphabet.specs.Symbols.{coding}
 use Rattle.alphabet.specs.Names.{kindOf, numbered}
 use Rattle.alphabet.specs.declared.kind.AlphabetType.{AlphabetType}
 use Rattle.alphabet.proofs.Laws.{lawful}
-use Rattle.windows.specs.Window.{covers}
+use Rattle.windows.specs.Window.{covers, firstLacking}
+use Rattle.windows.specs.Workers.{Near}
 use Rattle.windows.proofs.Turns.{bit-fits}
 use Rattle.windows.proofs.Answering.{covered-yes, covered-early, covered-late, range-order}
-use Rattle.windows.proofs.Answering.{Placed, placed, placed-some, placed-near, covered-refused, covered-empty, covered-not, covered-short, covered-bases}
+use Rattle.windows.proofs.Answering.{Placed, placed, placed-some, placed-near, covered-refused, covered-empty, covered-not, covered-short, covered-lacking, covered-bases}
 use Rattle.windows.proofs.asked.asked_covered.Statement.{statement}
 use Rattle.windows.proofs.asked.asked_covered.Tie as tie
 
@@ -94,8 +95,37 @@ returns-4 c =
 returns-5 : tie.Need-returns-5
 returns-5 c = let p = c .before .before .before in covered-short (window p) (start p .args .bytes .now) (start p .args .room) (all-lent (c .before)) (c .if4 .taken)
 
+-- the place where the width is known, from where there is memory for the bases
+abbrev known : (c : tie.Else4) → tie.After-bits-per-symbol
+known c = c .before .before .before
+
+first-lacking-requires : tie.Need-first-lacking-requires
+first-lacking-requires c κs =
+    let p = known c in
+    let a = start p .args in
+    let near : Near (a .start) (a .end) = record { order = omega (arith, placed-some (window p)); far = placed-near (window p) } in
+    let kind = p .before .kind-of .ensures in
+    (near, ap (λ (k : AlphabetType). covers (coding k) (a .bytes .now) (a .offset) (a .start) (a .end)) kind ∙ all-lent (c .before))
+
+-- the first base whose code the alphabet's list lacks
+first : (c : tie.After-first-lacking)
+    → (let a = start (known (c .before)) .args in c .first-lacking .result ≡ firstLacking (numbered (a .alphabet)) (a .bytes .now) (a .offset) (a .start) (a .end))
+first c =
+    let p = known (c .before) in
+    let a = start p .args in
+    c .first-lacking .ensures ∙ ap (λ (k : AlphabetType). firstLacking (coding k) (a .bytes .now) (a .offset) (a .start) (a .end)) (p .before .kind-of .ensures)
+
 returns-6 : tie.Need-returns-6
-returns-6 c = let p = c .before .before .before in covered-bases (window p) (start p .args .bytes .now) (start p .args .room) (all-lent (c .before)) (c .if4 .left)
+returns-6 c =
+    let f = c .before in
+    let p = known (f .before) in
+    covered-lacking (window p) (start p .args .bytes .now) (start p .args .room) (all-lent (f .before .before)) (f .before .if4 .left) _ (first f) (c .if5 .taken)
+
+returns-7 : tie.Need-returns-7
+returns-7 c =
+    let f = c .before in
+    let p = known (f .before) in
+    covered-bases (window p) (start p .args .bytes .now) (start p .args .room) (all-lent (f .before .before)) (f .before .if4 .left) _ (first f) (c .if5 .left)
 
 pub asked-covered-spec : {M : Type 1} → statement M
 asked-covered-spec =
@@ -115,4 +145,6 @@ asked-covered-spec =
     sub-if3
     returns-4
     returns-5
-    returns-6)
+    first-lacking-requires
+    returns-6
+    returns-7)

@@ -1,6 +1,7 @@
 use mathlib.Core.Path.{_≡_, refl, _∙_}
 use Prim.Native.Nat.{_*_, _-_, _≤_, zero-le}
 use native.Mathlib.Omega.{arith}
+use lib.Dec.{lit≤}
 use lib.ListN.{length}
 use Rattle.alphabet.specs.Symbols.{coding}
 use Rattle.alphabet.specs.declared.kind.AlphabetType.the-variants.{Dna3bit}
@@ -21,7 +22,7 @@ abbrev μ-loop : tie.MeasureT-loop
 abbrev start : (i : tie.In-loop Inv-loop μ-loop) → tie.Start Inv-loop μ-loop
 start i = i .before .before .before .before
 
-abbrev turn : (t : tie.After-three Inv-loop μ-loop) → tie.In-loop Inv-loop μ-loop
+abbrev turn : (t : tie.After-number Inv-loop μ-loop) → tie.In-loop Inv-loop μ-loop
 turn t = t .before .before .before
 
 loop-holds : tie.Need-loop-holds Inv-loop μ-loop
@@ -48,8 +49,8 @@ same-length-2 c = c .before .before .before .loop .inv .1
 returns-2 : tie.Need-returns-2 Inv-loop μ-loop
 returns-2 c = let l = c .before .before .before .loop in (l .inv .0, l .inv .2)
 
-three-requires : tie.Need-three-requires Inv-loop μ-loop
-three-requires c κs = c .if2 .left
+number-requires : tie.Need-number-requires Inv-loop μ-loop
+number-requires c κs = (lit≤ tt, c .if2 .left)
 
 mul-eight : tie.Need-mul-eight Inv-loop μ-loop
 mul-eight c = let i = turn (c .before) in omega (arith, i .loop-test .taken, start i .pre .1 .near)
@@ -80,8 +81,8 @@ loop-again c =
       e .eight .ensures
           ∙ block-more (coding Dna3bit) (a .bytes .now) (a .offset) 8 (a .from) (a .block * 8) (l .n) (a .out .now) (l .out) _ (l .inv .2)
           (omega (arith, i .loop-test .taken, start i .pre .1 .space))
-          (block-of-lent (coding Dna3bit) (a .bytes .now) (a .offset) 8 3 (rw (widths .of-dna3bit)) (a .block) (l .n) (t .three .result) (t .before .before .if1 .left)
-          (t .three .ensures)),
+          (block-of-lent (coding Dna3bit) (a .bytes .now) (a .offset) 8 3 (rw (widths .of-dna3bit)) (a .block) (l .n) (t .number .result) (t .before .before .if1 .left)
+          (t .number .ensures)),
     )
 
 same-length-3 : tie.Need-same-length-3 Inv-loop μ-loop
@@ -104,7 +105,7 @@ blocks-spec =
     add-if2
     same-length-2
     returns-2
-    three-requires
+    number-requires
     mul-eight
     add-eight
     eight-requires

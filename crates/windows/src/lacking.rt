@@ -1,0 +1,110 @@
+// Codes that an alphabet's own list lacks. Protein has 29 symbols, so that three of the 32 codes that five bits write are no symbol's; every code of the other
+// alphabets is a symbol's. A window is looked through before any base of it is written.
+use crate::blocks::number;
+use crate::rolling::code_at;
+use alphabet::AlphabetType;
+ghost use mathlib.Core.Path.{_≡_};
+ghost use mathlib.Core.Bool.{true, false};
+ghost use Prim.Native.Nat.{ℕ, _+_, _*_, _/_, _%_, _^_, _<_};
+ghost use Rattle.alphabet.specs.Symbols.{coding};
+ghost use Rattle.alphabet.specs.declared.kind.AlphabetType.the-variants.{Protein};
+ghost use Rattle.windows.specs.Window.{firstLacking, covers};
+ghost use Rattle.windows.specs.Workers.{Near, Lent, Passes};
+
+// Protein's bits per symbol.
+const WIDTH: usize = 5;
+
+// Its first code that is no symbol's.
+const LACKING: usize = 29;
+
+// Eleven codes have 55 bits, which are at most 62 with the bits before them in their first byte: eight bytes hold them, wherever in a byte they begin.
+const MANY: usize = 11;
+
+// 3 in each of eleven fields of five bits: added to a code from 29 on it carries into the field above.
+const THREES: u64 = 0xC6318C6318C63;
+
+// The bits that these carries come to: the lowest of each field but the first, and the one above the last.
+const CARRIES: u64 = 0x84210842108420;
+
+// Whether one of eleven codes, those of a number's low bits, is no symbol's. That it says so of no others is not asked of it: where it does, each is looked at.
+fn lacks(codes: u64) -> bool
+    requires { ⌜ codes < 2 ^ 62 ⌝ }
+    ensures { λ r. ⌜ (r ≡ false → (i : ℕ) → i < 11 → codes / 2 ^ (i * 5) % 2 ^ 5 < 29) ⌝ }
+{
+    ((codes + THREES) ^ codes ^ THREES) & CARRIES != 0
+}
+
+// Passes bases from `start` on whose codes are symbols', eleven at a time, while more are left than that, so that eight bytes are. The answer is the first base
+// that was not passed; how far it goes is free.
+fn pass_many(bytes: &[u8], offset: usize, start: usize, end: usize) -> usize
+    requires { ⌜ Lent (now bytes) offset start end ⌝ }
+    ensures { λ r. ⌜ Passes (coding Protein) (now (bytes .entry)) offset start r end ⌝ }
+{
+    let mut at = start;
+    while MANY < end - at {
+        let bit = at * WIDTH;
+        if lacks(number(bytes, bit / 8 - offset, 8) >> (9 - bit % 8)) {
+            return at;
+        }
+        at += MANY;
+    }
+    at
+}
+
+// The same for eleven bases or fewer, all at once.
+fn pass_rest(bytes: &[u8], offset: usize, start: usize, end: usize) -> usize
+    requires { ⌜ Lent (now bytes) offset start end ⌝ }
+    ensures { λ r. ⌜ Passes (coding Protein) (now (bytes .entry)) offset start r end ⌝ }
+{
+    if MANY < end - start {
+        return start;
+    }
+    let first = start * WIDTH / 8;
+    let last = (end * WIDTH + 7) / 8;
+    if lacks(number(bytes, first - offset, last - first) >> (last * 8 - end * WIDTH)) {
+        return start;
+    }
+    end
+}
+
+// The first base from `start` on whose code is no symbol's, one at a time.
+fn first_alone(bytes: &[u8], offset: usize, start: usize, end: usize) -> usize
+    requires { ⌜ Near start end ⌝ }
+    ensures { λ r. ⌜ r ≡ firstLacking (coding Protein) (now (bytes .entry)) offset start end ⌝ }
+{
+    let mut i = start;
+    while i < end {
+        if LACKING <= code_at(bytes, offset, i * WIDTH, WIDTH) {
+            return i;
+        }
+        i += 1;
+    }
+    end
+}
+
+// The first base of a covered window of Protein whose code is no symbol's; `end` where there is none.
+fn first_in_protein(bytes: &[u8], offset: usize, start: usize, end: usize) -> usize
+    requires { ⌜ Lent (now bytes) offset start end ⌝ }
+    ensures { λ r. ⌜ r ≡ firstLacking (coding Protein) (now (bytes .entry)) offset start end ⌝ }
+{
+    let many = pass_many(bytes, offset, start, end);
+    let rest = pass_rest(bytes, offset, many, end);
+    first_alone(bytes, offset, rest, end)
+}
+
+// The same for any alphabet. No other one than Protein has codes of five bits.
+pub fn first_lacking(
+    kind: AlphabetType,
+    bytes: &[u8],
+    offset: usize,
+    start: usize,
+    end: usize,
+) -> usize
+    requires { ⌜ Near start end × (covers (coding kind) (now bytes) offset start end ≡ true) ⌝ }
+    ensures { λ r. ⌜ r ≡ firstLacking (coding kind) (now (bytes .entry)) offset start end ⌝ }
+{
+    if kind.bits_per_symbol() != WIDTH {
+        return end;
+    }
+    first_in_protein(bytes, offset, start, end)
+}
