@@ -1,14 +1,15 @@
 -- A number comes out only for its own "no": each call's is that of the first of its questions that is answered no.
 use mathlib.Core.Path.{_≡_, refl, ap, _∙_}
 use mathlib.Core.Bool.{Bool, true, false, cond, _&&_, _||_}
-use mathlib.Core.List.{List, []}
+use mathlib.Core.List.{List, [], _∷_}
 use Prim.Native.Nat.{ℕ, _+_, _-_, _*_, _/_, _<_, min}
 use native.Mathlib.Omega.{arith}
-use borrow.Author.Tests.{eq-eqb, ne-eqb}
+use borrow.Author.Tests.{eq-eqb, ne-eqb, ltb-false}
 use lib.Dec.{leb, ltb, eqb}
 use lib.ListN.{length}
 use Rattle.bits.specs.Packing.{bytesFor}
-use Rattle.alphabet.specs.Questions.{ask_else_then_, numberIn, inBounds}
+use Rattle.alphabet.specs.Questions.{ask_else_then_, by, numberIn, inBounds}
+use Rattle.alphabet.specs.Symbols.{Coding}
 use Rattle.alphabet.specs.Names.{known, numbered, numberedBy, namedAt}
 use Rattle.alphabet.specs.Guess.{soundGuesser, guesserUpdateAt}
 use Rattle.alphabet.specs.Answers.{namedReply, guesserUpdatedReply, guesserUpdateTold, guessTold}
@@ -26,8 +27,9 @@ use Rattle.packing.specs.declared.range.Range.{Range}
 use Rattle.packing.specs.Range.{rangeAt}
 use Rattle.packing.specs.Answers.{encoderStartedReply, encodedReply, updatedReply, finalizedReply, rangeReply}
 use Rattle.windows.specs.declared.read.Read.{Read}
-use Rattle.windows.specs.Window.{covers, allAssigned, readAt, coveredAt}
+use Rattle.windows.specs.Window.{covers, allAssigned, readAt, lentAt, lookedAt, coveredAt}
 use Rattle.windows.specs.Answers.{readReply}
+use Rattle.windows.proofs.Assigned.{empty-assigned}
 use Rattle.streaming.specs.declared.decoder.StreamingDecoder.{StreamingDecoder}
 use Rattle.streaming.specs.declared.decoder.Status.{Status}
 use Rattle.streaming.specs.declared.decoder.Status.the-variants.{Hungry, Full}
@@ -36,7 +38,7 @@ use Rattle.streaming.specs.declared.decoder.Streamed.{Streamed}
 use Rattle.streaming.specs.declared.decoder.Ended.{Ended}
 use Rattle.streaming.specs.Stream.{startStreamAt, streamAt, movedBy, moved, takes, basesOf, statusOf, endAt, greatest, soundStream}
 use Rattle.streaming.specs.Answers.{streamStartedReply, streamedReply, endedReply}
-use Rattle.fantailclock.specs.Asked.{Asked, firstNo, clean, askedOfGuesser, askedOfAlphabet, askedOfText, askedOfPiece, askedOfEnd, askedOfRange}
+use Rattle.fantailclock.specs.Asked.{Asked, _unless_, firstNo, clean, askedOfGuesser, askedOfAlphabet, askedOfText, askedOfPiece, askedOfEnd, askedOfRange}
 use Rattle.fantailclock.specs.Asked.{askedOfRead, askedOfCovered, askedOfStart, askedOfStream, askedOfStreamEnd}
 use Rattle.fantailclock.specs.Asked.{askedOfGuesserNumbers, askedOfEncoderNumbers, askedOfStreamNumbers}
 use Rattle.fantailclock.specs.declared.shapes.Guesser.{Guesser}
@@ -126,16 +128,43 @@ read-number n offset start end room =
     (asked tell (known n) _ _ refl
     (asked tell (inBounds end && inBounds offset) _ _ refl (asked tell (leb (end - start) room) _ _ refl refl)))
 
+-- of an empty window no code is asked about either
 pub covered-number : (n : ℕ) (lent : List ℕ) (offset start end room : ℕ)
     → numberIn (readReply (coveredAt n lent offset start end room)) ≡ firstNo (askedOfCovered n lent offset start end room)
-unfolding firstNo askedOfCovered coveredAt
-covered-number n lent offset start end room =
-    let tell : Read → ℕ = λ x. numberIn (readReply x) in
-    empty-or tell (ltb start end) _ _ _ refl
-    (asked tell (known n) _ _ refl
-    (asked tell (inBounds end && inBounds offset) _ _ refl
-    (asked tell (covers (numbered n) lent offset start end) _ _ refl
-    (asked tell (leb (end - start) room) _ _ refl (asked tell (allAssigned (numbered n) lent offset start end) _ _ refl refl)))))
+unfolding firstNo askedOfCovered coveredAt lentAt
+covered-number n lent offset start end room = go (ltb start end) refl
+  where
+    A : Coding
+    A = numbered n
+
+    tell : Read → ℕ
+    tell x = numberIn (readReply (lookedAt A lent offset start end x))
+
+    rest : Read
+    rest =
+        ask known n else Read.Refused (by 8 []) then
+        ask inBounds end && inBounds offset else Read.Refused (by 2 []) then
+        ask covers A lent offset start end else Read.Refused (by 3 []) then
+        ask leb (end - start) room else Read.Refused (by 4 []) then
+        Read.Bases (end - start)
+
+    questions : List Asked
+    questions =
+        (8 unless known n)
+        ∷ (2 unless inBounds end && inBounds offset)
+        ∷ (3 unless covers A lent offset start end)
+        ∷ (4 unless leb (end - start) room)
+        ∷ (18 unless allAssigned A lent offset start end)
+        ∷ []
+
+    go : (t : Bool) → ltb start end ≡ t → tell (ask t else Read.Bases 0 then rest) ≡ firstNo (cond t questions [])
+    go true e =
+        asked tell (known n) _ _ refl
+        (asked tell (inBounds end && inBounds offset) _ _ refl
+        (asked tell (covers A lent offset start end) _ _ refl
+        (asked tell (leb (end - start) room) _ _ refl
+        (asked (λ x. numberIn (readReply x)) (allAssigned A lent offset start end) _ _ refl refl))))
+    go false e = rw (empty-assigned A lent offset start end (ltb-false start end e))
 
 -- ---- the stream
 

@@ -11,7 +11,7 @@ use Rattle.alphabet.specs.Guess.{holders, maskOf, masked, lowest, guessOf, soun
 use Rattle.packing.specs.Encode.{digitOf, packing, firstFrom, encodeAt, encodeWrites, encodeMemory, freshEncoder, soundEncoder, pieceBits, pieceBitCount, updated}
 use Rattle.packing.specs.Encode.{updateAt, updateWrites, updateMemory, finalizeAt, finalizeWrites, finalizeMemory}
 use Rattle.packing.specs.Range.{rangeAt}
-use Rattle.windows.specs.Window.{window, covers, assignedFront, firstLacking, readAt, coveredAt, readWrites, readMemory, coveredMemory}
+use Rattle.windows.specs.Window.{window, covers, assignedFront, firstLacking, readAt, lentAt, coveredAt, readWrites, readMemory, coveredMemory}
 use Rattle.streaming.specs.Stream.{freshStream, soundStream, startStreamAt, greatest, sourceBits, used, takes, basesOf, moved, movedBy, streamAt, streamMemory, streamWrites, endAt}
 use Rattle.record.specs.Calls.{written}
 use Rattle.record.specs.Runs.{run}
@@ -21,6 +21,6 @@ pub rows-hold : Hold rows
 unfolding trailingZeros tabulate howMany bitAt word after cut pack atHand fileByte codesFrom bytesOf coded dna2bit dna3bit dnaIupac protein among found listed plain
     coding upper displayName kindOf namedAt holders maskOf masked lowest guessOf soundGuesser guesserUpdateAt guessAt digitOf packing firstFrom encodeAt encodeWrites
     encodeMemory freshEncoder soundEncoder pieceBits pieceBitCount updated updateAt updateWrites updateMemory finalizeAt finalizeWrites finalizeMemory rangeAt window
-    covers assignedFront firstLacking readAt coveredAt readWrites readMemory coveredMemory freshStream soundStream startStreamAt greatest sourceBits used takes basesOf
+    covers assignedFront firstLacking readAt lentAt coveredAt readWrites readMemory coveredMemory freshStream soundStream startStreamAt greatest sourceBits used takes basesOf
     moved movedBy streamAt streamMemory streamWrites endAt written run
 rows-hold = refl

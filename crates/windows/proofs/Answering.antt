@@ -5,7 +5,7 @@ use mathlib.Core.List.{List, [], _∷_}
 use Prim.Native.Nat.{ℕ, _+_, _-_, _^_, _≤_, _<_}
 use native.Mathlib.Nat.{mul-le-mul-right}
 use native.Mathlib.Omega.{arith}
-use borrow.Author.Tests.{ltb-true, leb-true, lt-ltb, le-ltb, le-leb, lt-leb}
+use borrow.Author.Tests.{ltb-true, ltb-false, leb-true, lt-ltb, le-ltb, le-leb, lt-leb}
 use lib.Dec.{leb, ltb}
 use lib.ListN.{length}
 use Rattle.bits.specs.Tables.{tabulate}
@@ -20,10 +20,10 @@ use Rattle.alphabet.specs.declared.kind.AlphabetType.{AlphabetType}
 use Rattle.alphabet.specs.declared.kind.AlphabetType.the-variants.{Protein}
 use Rattle.alphabet.specs.declared.refusal.Refusal.{Refusal}
 use Rattle.windows.specs.declared.read.Read.{Read}
-use Rattle.windows.specs.Window.{window, covers, firstLacking, allAssigned, readAt, coveredAt, readWrites, readMemory, coveredMemory}
+use Rattle.windows.specs.Window.{window, covers, firstLacking, allAssigned, readAt, lentAt, lookedAt, coveredAt, readWrites, readMemory, coveredMemory}
 use Rattle.windows.specs.Workers.{Fits, Passed}
 use Rattle.windows.proofs.Windows.{window-bases}
-use Rattle.windows.proofs.Assigned.{lacking-none, others-pass}
+use Rattle.windows.proofs.Assigned.{empty-assigned, others-assigned}
 
 -- ---- an answer with bases passed every question
 
@@ -51,17 +51,27 @@ accepted alphabet offset start end room r e n told z =
     let p₄ = passed (leb (end - start) room) _ _ n refl h (p₃ .1) in
     last start end room n (p₁ .0) (both-true (inBounds end) (inBounds offset) (p₃ .0) .0) (p₄ .0) (p₄ .1)
 
-pub covered-accepted : (alphabet : ℕ) (lent : List ℕ) (offset start end room : ℕ) (r : Read) → r ≡ coveredAt alphabet lent offset start end room → Passed r start room
-unfolding coveredAt
-covered-accepted alphabet lent offset start end room r e n told z =
+-- what is known of a covered read that was answered with bases before its codes are looked at
+pub record Accepted (alphabet : ℕ) (lent : List ℕ) (offset start end room n : ℕ) : Type 0 where
+  pub fits : Fits start n 0 room
+  pub all : covers (numbered alphabet) lent offset start end ≡ true
+  pub whole : start + n ≡ end
+
+pub lent-accepted : (alphabet : ℕ) (lent : List ℕ) (offset start end room : ℕ) (r : Read) (n : ℕ)
+    → r ≡ lentAt alphabet lent offset start end room → r ≡ Read.Bases n → (n ≡ 0 → ⊥) → Accepted alphabet lent offset start end room n
+unfolding lentAt
+lent-accepted alphabet lent offset start end room r n e told z =
     let h : 0 < n = omega arith in
     let p₁ = passed (ltb start end) _ _ n refl h (sym (ap counted e) ∙ ap counted told) in
     let p₂ = passed (known alphabet) _ _ n refl h (p₁ .1) in
     let p₃ = passed (inBounds end && inBounds offset) _ _ n refl h (p₂ .1) in
     let p₄ = passed (covers (numbered alphabet) lent offset start end) _ _ n refl h (p₃ .1) in
     let p₅ = passed (leb (end - start) room) _ _ n refl h (p₄ .1) in
-    let p₆ = passed (allAssigned (numbered alphabet) lent offset start end) _ _ n refl h (p₅ .1) in
-    last start end room n (p₁ .0) (both-true (inBounds end) (inBounds offset) (p₃ .0) .0) (p₅ .0) (p₆ .1)
+    record {
+      fits = last start end room n (p₁ .0) (both-true (inBounds end) (inBounds offset) (p₃ .0) .0) (p₅ .0) (p₅ .1);
+      all = p₄ .0;
+      whole = omega (arith, ltb-true start end (p₁ .0), p₅ .1);
+    }
 
 -- ---- memory afterwards
 
@@ -148,7 +158,7 @@ module _ (alphabet offset start end room : ℕ) where
           unfolding readAt
           read-bases h = rw (lt-ltb start end some, le-leb alphabet 5 named, le-leb end (2 ^ 60) near, le-leb offset (2 ^ 60) by-near, le-leb (end - start) room h)
 
--- ---- each answer of a covered read, by that of a zero-filling one with memory enough
+-- ---- each answer of a covered read before its codes are looked at, by that of a zero-filling one with memory enough
 
 -- what is asked of both, by the three answers, with what follows on "yes"
 abbrev asking : Bool → Bool → Bool → Read → Read
@@ -164,7 +174,6 @@ module _ (alphabet : ℕ) (lent : List ℕ) (offset start end room : ℕ) (r : R
   besides =
       ask covers (numbered alphabet) lent offset start end else Read.Refused (by 3 []) then
       ask leb (end - start) room else Read.Refused (by 4 []) then
-      ask allAssigned (numbered alphabet) lent offset start end else Read.Refused (by 18 (firstLacking (numbered alphabet) lent offset start end ∷ [])) then
       Read.Bases (end - start)
 
   plain : r ≡ asking (ltb start end) (known alphabet) (inBounds end && inBounds offset) (Read.Bases (end - start))
@@ -172,9 +181,9 @@ module _ (alphabet : ℕ) (lent : List ℕ) (offset start end room : ℕ) (r : R
   plain = e ∙ rw (le-leb (end - start) end (omega arith))
 
   -- a refusal is no answer with bases, so that it stays whatever else is asked
-  pub covered-refused : (q : Refusal) → r ≡ Read.Refused q → r ≡ coveredAt alphabet lent offset start end room
-  unfolding coveredAt
-  covered-refused q told = told ∙ go (ltb start end) (known alphabet) (inBounds end && inBounds offset) (sym told ∙ plain)
+  pub lent-refused : (q : Refusal) → r ≡ Read.Refused q → r ≡ lentAt alphabet lent offset start end room
+  unfolding lentAt
+  lent-refused q told = told ∙ go (ltb start end) (known alphabet) (inBounds end && inBounds offset) (sym told ∙ plain)
     where
       go : (t u v : Bool) → Read.Refused q ≡ asking t u v (Read.Bases (end - start)) → Read.Refused q ≡ asking t u v besides
       go true true true p = let z : _≡_ {A = ℕ} 0 1 = cc in absurd (omega arith)
@@ -183,78 +192,15 @@ module _ (alphabet : ℕ) (lent : List ℕ) (offset start end room : ℕ) (r : R
       go false u v p = p
 
   -- an empty window stays so
-  pub covered-empty : (n : ℕ) → r ≡ Read.Bases n → n ≡ 0 → Read.Bases n ≡ coveredAt alphabet lent offset start end room
-  unfolding coveredAt
-  covered-empty n told z = go (ltb start end) (known alphabet) (inBounds end && inBounds offset) (ltb-true start end) (sym told ∙ plain)
+  pub lent-empty : (n : ℕ) → r ≡ Read.Bases n → n ≡ 0 → Read.Bases n ≡ lentAt alphabet lent offset start end room
+  unfolding lentAt
+  lent-empty n told z = go (ltb start end) (known alphabet) (inBounds end && inBounds offset) (ltb-true start end) (sym told ∙ plain)
     where
       go : (t u v : Bool) → (t ≡ true → start < end) → Read.Bases n ≡ asking t u v (Read.Bases (end - start)) → Read.Bases n ≡ asking t u v besides
       go true true true some p = absurd (omega (arith, some refl, ap counted p))
       go true true false some p = let x : _≡_ {A = ℕ} 0 1 = cc in absurd (omega arith)
       go true false v some p = let x : _≡_ {A = ℕ} 0 1 = cc in absurd (omega arith)
       go false u v some p = p
-
--- an accepted covered read is answered as a zero-filling one, and leaves the same
-pub covered-agrees : (alphabet : ℕ) (lent : List ℕ) (offset start end room n : ℕ)
-    → coveredAt alphabet lent offset start end room ≡ Read.Bases n → readAt alphabet offset start end room ≡ Read.Bases n
-unfolding coveredAt readAt
-covered-agrees alphabet lent offset start end room n =
-    let A : Coding = numbered alphabet in
-    go (ltb start end) (known alphabet) (inBounds end && inBounds offset) (covers A lent offset start end) (leb (end - start) room) (allAssigned A lent offset start end)
-  where
-    bases : Read
-    bases = Read.Bases (end - start)
-
-    -- by the answers to the questions
-    go : (t u v w x y : Bool)
-        → asking t u v
-        (ask w else Read.Refused (by 3 []) then
-        ask x else Read.Refused (by 4 []) then
-        ask y else Read.Refused (by 18 (firstLacking (numbered alphabet) lent offset start end ∷ [])) then
-        bases)
-        ≡ Read.Bases n
-        → asking t u v (ask x else Read.Refused (by 4 []) then bases) ≡ Read.Bases n
-    go false u v w x y e = e
-    go true false v w x y e = e
-    go true true false w x y e = e
-    go true true true true false y e = e
-    go true true true true true true e = e
-    go true true true true true false e = let z : _≡_ {A = ℕ} 0 1 = cc in absurd (omega arith)
-    go true true true false x y e = let z : _≡_ {A = ℕ} 0 1 = cc in absurd (omega arith)
-
-pub covered-leaves : (alphabet : ℕ) (lent : List ℕ) (offset start end : ℕ) (memory : List ℕ) (n : ℕ)
-    → coveredAt alphabet lent offset start end (length memory) ≡ Read.Bases n
-    → coveredMemory alphabet lent offset start end memory ≡ readMemory alphabet lent offset start end memory
-unfolding coveredMemory readMemory
-covered-leaves alphabet lent offset start end memory n e =
-    ap (λ (x : Read). front (readWrites alphabet lent offset start x) memory) (e ∙ sym (covered-agrees alphabet lent offset start end (length memory) n e))
-
--- in every alphabet but Protein a covered read is answered as before request A7
-pub other-alphabets : (alphabet : ℕ) → (kindOf alphabet ≡ Protein → ⊥) → (lent : List ℕ) (offset start end room : ℕ)
-    → coveredAt alphabet lent offset start end room
-    ≡ asking (ltb start end) (known alphabet) (inBounds end && inBounds offset)
-    (ask covers (numbered alphabet) lent offset start end else Read.Refused (by 3 []) then
-    ask leb (end - start) room else Read.Refused (by 4 []) then
-    Read.Bases (end - start))
-unfolding coveredAt
-other-alphabets alphabet other lent offset start end room = go (ltb start end) refl
-  where
-    A : Coding
-    A = numbered alphabet
-
-    asks : Bool → Bool → Read
-    asks t y =
-        asking t (known alphabet) (inBounds end && inBounds offset)
-        (ask covers A lent offset start end else Read.Refused (by 3 []) then
-        ask leb (end - start) room else Read.Refused (by 4 []) then
-        ask y else Read.Refused (by 18 (firstLacking A lent offset start end ∷ [])) then
-        Read.Bases (end - start))
-
-    go : (t : Bool) → ltb start end ≡ t → asks t (allAssigned A lent offset start end) ≡ asks t true
-    go false e = refl
-    go true e =
-        let order : start ≤ end = omega (arith, ltb-true start end e) in
-        let none : firstLacking A lent offset start end ≡ end = lacking-none A lent offset (others-pass (kindOf alphabet) other lent offset start end order) in
-        ap (asks true) (le-leb end (firstLacking A lent offset start end) (omega (arith, none)))
 
 -- a window that is not empty, of n bases, whose alphabet has a number and whose positions are in bounds
 pub record Placed (alphabet offset start end n : ℕ) : Type 0 where
@@ -281,27 +227,112 @@ module _ {alphabet offset start end n : ℕ} (w : Placed alphabet offset start e
   placed-near = leb-true end (2 ^ 60) (both-true (inBounds end) (inBounds offset) (w .near) .0)
 
   module _ (lent : List ℕ) (room : ℕ) where
-    pub covered-not : covers (numbered alphabet) lent offset start end ≡ false → Read.Refused (by 3 []) ≡ coveredAt alphabet lent offset start end room
-    unfolding coveredAt
-    covered-not h = rw (w .some, w .named, w .near, h)
+    pub lent-not : covers (numbered alphabet) lent offset start end ≡ false → Read.Refused (by 3 []) ≡ lentAt alphabet lent offset start end room
+    unfolding lentAt
+    lent-not h = rw (w .some, w .named, w .near, h)
 
     module _ (all : covers (numbered alphabet) lent offset start end ≡ true) where
-      pub covered-short : room < n → Read.Refused (by 4 []) ≡ coveredAt alphabet lent offset start end room
-      unfolding coveredAt
-      covered-short h = rw (w .some, w .named, w .near, all, lt-leb (end - start) room (omega (arith, w .count)))
+      pub lent-short : room < n → Read.Refused (by 4 []) ≡ lentAt alphabet lent offset start end room
+      unfolding lentAt
+      lent-short h = rw (w .some, w .named, w .near, all, lt-leb (end - start) room (omega (arith, w .count)))
 
-      module _ (space : n ≤ room) (first : ℕ) (told : first ≡ firstLacking (numbered alphabet) lent offset start end) where
-        enough : leb (end - start) room ≡ true
-        enough = le-leb (end - start) room (omega (arith, w .count))
+      pub lent-bases : n ≤ room → Read.Bases n ≡ lentAt alphabet lent offset start end room
+      unfolding lentAt
+      lent-bases h = ap Read.Bases (sym (w .count)) ∙ rw (w .some, w .named, w .near, all, le-leb (end - start) room (omega (arith, w .count)))
 
-        pub covered-lacking : first < end → Read.Refused (by 18 (first ∷ [])) ≡ coveredAt alphabet lent offset start end room
-        unfolding coveredAt
-        covered-lacking h =
-            ap (λ (i : ℕ). Read.Refused (by 18 (i ∷ []))) told
-            ∙ rw (w .some, w .named, w .near, all, enough, lt-leb end (firstLacking (numbered alphabet) lent offset start end) (rw (← told) h))
+-- ---- the covered read's last question
 
-        pub covered-bases : end ≤ first → Read.Bases n ≡ coveredAt alphabet lent offset start end room
-        unfolding coveredAt
-        covered-bases h =
-            ap Read.Bases (sym (w .count))
-            ∙ rw (w .some, w .named, w .near, all, enough, le-leb end (firstLacking (numbered alphabet) lent offset start end) (rw (← told) h))
+-- an answer by the answers to all questions but the last
+abbrev asked : Bool → Bool → Bool → Bool → Bool → ℕ → Read
+asked some named near all space n =
+    asking some named near (ask all else Read.Refused (by 3 []) then ask space else Read.Refused (by 4 []) then Read.Bases n)
+
+module _ (alphabet : ℕ) (lent : List ℕ) (offset start end room : ℕ) (r : Read) (e : r ≡ lentAt alphabet lent offset start end room) where
+  abbrev A : Coding
+  A = numbered alphabet
+
+  told : lookedAt A lent offset start end r ≡ coveredAt alphabet lent offset start end room
+  unfolding coveredAt
+  told = ap (lookedAt A lent offset start end) e
+
+  -- a refusal stays
+  pub looked-refused : (q : Refusal) → r ≡ Read.Refused q → r ≡ coveredAt alphabet lent offset start end room
+  looked-refused q is = is ∙ ap (lookedAt A lent offset start end) (sym is) ∙ told
+
+  -- only an empty window is answered with no bases
+  none : (n : ℕ) → r ≡ Read.Bases n → n ≡ 0 → end ≤ start
+  unfolding lentAt
+  none n is z =
+      go (ltb start end) refl (known alphabet) (inBounds end && inBounds offset) (covers A lent offset start end) (leb (end - start) room) (sym is ∙ e)
+    where
+      go : (t : Bool) → ltb start end ≡ t → (u v w x : Bool) → Read.Bases n ≡ asked t u v w x (end - start) → end ≤ start
+      go false f u v w x p = ltb-false start end f
+      go true f true true true true p = absurd (omega (arith, ltb-true start end f, ap counted p))
+      go true f true true true false p = let y : _≡_ {A = ℕ} 0 1 = cc in absurd (omega arith)
+      go true f true true false x p = let y : _≡_ {A = ℕ} 0 1 = cc in absurd (omega arith)
+      go true f true false w x p = let y : _≡_ {A = ℕ} 0 1 = cc in absurd (omega arith)
+      go true f false v w x p = let y : _≡_ {A = ℕ} 0 1 = cc in absurd (omega arith)
+
+  module _ (n : ℕ) (is : r ≡ Read.Bases n) where
+    -- bases by the answer to it
+    by-codes : (t : Bool) → allAssigned A lent offset start end ≡ t
+        → (ask t else Read.Refused (by 18 (firstLacking A lent offset start end ∷ [])) then Read.Bases n) ≡ coveredAt alphabet lent offset start end room
+    by-codes t f =
+        ap (λ (x : Bool). ask x else Read.Refused (by 18 (firstLacking A lent offset start end ∷ [])) then Read.Bases n) (sym f)
+        ∙ ap (lookedAt A lent offset start end) (sym is)
+        ∙ told
+
+    pub looked-empty : n ≡ 0 → r ≡ coveredAt alphabet lent offset start end room
+    looked-empty z = is ∙ by-codes true (empty-assigned A lent offset start end (none n is z))
+
+    module _ (first : ℕ) (found : first ≡ firstLacking A lent offset start end) where
+      pub looked-lacking : first < end → Read.Refused (by 18 (first ∷ [])) ≡ coveredAt alphabet lent offset start end room
+      looked-lacking h =
+          ap (λ (i : ℕ). Read.Refused (by 18 (i ∷ []))) found ∙ by-codes false (lt-leb end (firstLacking A lent offset start end) (rw (← found) h))
+
+      pub looked-bases : end ≤ first → r ≡ coveredAt alphabet lent offset start end room
+      looked-bases h = is ∙ by-codes true (le-leb end (firstLacking A lent offset start end) (rw (← found) h))
+
+-- an accepted covered read is answered as a zero-filling one, and leaves the same
+pub covered-agrees : (alphabet : ℕ) (lent : List ℕ) (offset start end room n : ℕ)
+    → coveredAt alphabet lent offset start end room ≡ Read.Bases n → readAt alphabet offset start end room ≡ Read.Bases n
+unfolding coveredAt lentAt readAt
+covered-agrees alphabet lent offset start end room n e =
+    questions (ltb start end) (known alphabet) (inBounds end && inBounds offset) (covers A lent offset start end) (leb (end - start) room)
+    (codes (lentAt alphabet lent offset start end room) e)
+  where
+    A : Coding
+    A = numbered alphabet
+
+    codes : (r : Read) → lookedAt A lent offset start end r ≡ Read.Bases n → r ≡ Read.Bases n
+    codes (Read.Refused q) f = f
+    codes (Read.Bases m) f = go (allAssigned A lent offset start end) f
+      where
+        go : (t : Bool) → (ask t else Read.Refused (by 18 (firstLacking A lent offset start end ∷ [])) then Read.Bases m) ≡ Read.Bases n → Read.Bases m ≡ Read.Bases n
+        go true f = f
+        go false f = let z : _≡_ {A = ℕ} 0 1 = cc in absurd (omega arith)
+
+    questions : (t u v w x : Bool) → asked t u v w x (end - start) ≡ Read.Bases n
+        → asking t u v (ask x else Read.Refused (by 4 []) then Read.Bases (end - start)) ≡ Read.Bases n
+    questions false u v w x f = f
+    questions true false v w x f = f
+    questions true true false w x f = f
+    questions true true true true x f = f
+    questions true true true false x f = let z : _≡_ {A = ℕ} 0 1 = cc in absurd (omega arith)
+
+pub covered-leaves : (alphabet : ℕ) (lent : List ℕ) (offset start end : ℕ) (memory : List ℕ) (n : ℕ)
+    → coveredAt alphabet lent offset start end (length memory) ≡ Read.Bases n
+    → coveredMemory alphabet lent offset start end memory ≡ readMemory alphabet lent offset start end memory
+unfolding coveredMemory readMemory
+covered-leaves alphabet lent offset start end memory n e =
+    ap (λ (x : Read). front (readWrites alphabet lent offset start x) memory) (e ∙ sym (covered-agrees alphabet lent offset start end (length memory) n e))
+
+-- in every alphabet but Protein nothing is asked besides
+pub other-alphabets : (alphabet : ℕ) → (kindOf alphabet ≡ Protein → ⊥) → (lent : List ℕ) (offset start end room : ℕ)
+    → coveredAt alphabet lent offset start end room ≡ lentAt alphabet lent offset start end room
+unfolding coveredAt
+other-alphabets alphabet other lent offset start end room = go (lentAt alphabet lent offset start end room)
+  where
+    go : (r : Read) → lookedAt (numbered alphabet) lent offset start end r ≡ r
+    go (Read.Refused q) = refl
+    go (Read.Bases n) = rw (others-assigned (kindOf alphabet) other lent offset start end)

@@ -1,17 +1,18 @@
 -- Codes that an alphabet's own list lacks: what `firstLacking` says of a window, how far bases may be passed, and eleven codes at once.
 use mathlib.Core.Path.{_≡_, refl, sym, ap, subst, _∙_}
-use mathlib.Core.Bool.{Bool, true, false}
+use mathlib.Core.Bool.{Bool, true, false, cond}
 use mathlib.Core.List.{List, [], _∷_, _++_, map}
 use Prim.Native.Nat.{ℕ, zero, suc, _+_, _-_, _*_, _/_, _%_, _^_, _≤_, _<_}
 use native.Mathlib.Nat.{add-zero, add-mul, suc-add, zero-add, zero-mul, mul-le-mul-right, lt-of-lt-of-le}
 use native.Mathlib.Decide.{decLt}
 use native.Mathlib.Omega.{arith}
-use borrow.Author.Tests.{leb-true, lt-ltb, le-ltb}
+use borrow.Author.Tests.{leb-true, le-leb, lt-leb, lt-ltb, le-ltb}
 use lib.Dec.{leb}
 use lib.ListN.{length}
 use lib.Pow.{pow-mono}
 use Rattle.bits.specs.Tables.{tabulate, at}
 use Rattle.bits.specs.Streams.{bitAt, word, cut}
+use Rattle.bits.specs.Memory.{putAt}
 use Rattle.bits.specs.Packing.{pack, fileByte, codesFrom, firstByte, endByte}
 use Rattle.bits.proofs.Computed.{both-true}
 use Rattle.bits.proofs.Tabulated.{length-tabulate, tabulate-ext, tabulate-add, getD-tabulate}
@@ -22,8 +23,8 @@ use Rattle.alphabet.specs.Symbols.{Coding, coding}
 use Rattle.alphabet.specs.declared.kind.AlphabetType.{AlphabetType}
 use Rattle.alphabet.specs.declared.kind.AlphabetType.the-variants.{Dna2bit, Dna3bit, DnaIupac, Protein, Ascii, Unknown}
 use Rattle.alphabet.proofs.Laws.{Lawful, widths, every-assigned, protein-assigned}
-use Rattle.windows.specs.Window.{covers, assignedFront, firstLacking}
-use Rattle.windows.specs.Workers.{Near, Lent, Passes}
+use Rattle.windows.specs.Window.{window, covers, assignedFront, firstLacking, allAssigned}
+use Rattle.windows.specs.Workers.{Near, Lent, Passes, firstLooked, lookedMemory}
 use Rattle.windows.proofs.Windows.{codes-of-text}
 
 -- ---- a list of codes
@@ -200,6 +201,21 @@ others-pass k other lent offset start end h =
       each = λ i l m. every-assigned k other (codeAt (coding k) lent offset i) (word-lt (bitAt 8 (fileByte lent offset)) (bit-lt 8 (fileByte lent offset)) (i * w) w);
     }
 
+-- a window's question is answered yes there, and where it has no bases
+pub empty-assigned : (A : Coding) (lent : List ℕ) (offset start end : ℕ) → end ≤ start → allAssigned A lent offset start end ≡ true
+unfolding firstLacking
+empty-assigned A lent offset start end h = le-leb end (firstLacking A lent offset start end) (omega arith)
+
+pub others-assigned : (k : AlphabetType) → (k ≡ Protein → ⊥) → (lent : List ℕ) (offset start end : ℕ) → allAssigned (coding k) lent offset start end ≡ true
+others-assigned k other lent offset start end = go (decLt start end)
+  where
+    go : Dec (start < end) → allAssigned (coding k) lent offset start end ≡ true
+    go (yes h) =
+        let none : firstLacking (coding k) lent offset start end ≡ end =
+        lacking-none (coding k) lent offset (others-pass k other lent offset start end (omega arith)) in
+        le-leb end (firstLacking (coding k) lent offset start end) (omega (arith, none))
+    go (no h) = empty-assigned (coding k) lent offset start end (omega arith)
+
 -- ---- Protein's codes, five bits each
 
 -- no other alphabet has them
@@ -268,3 +284,30 @@ module _ (lent : List ℕ) (offset : ℕ) where
         ∙ word-field bits (bit-lt 8 (fileByte lent offset)) (first * 8) (q + t * 5) 5 (u * 5)
         ∙ ap (λ (k : ℕ). word bits k 5) here in
         protein-has (i + t) (rw (← code) (small u (omega arith)))
+
+-- ---- a window that is looked at, or not, and written where no such base was found
+
+module _ (look : Bool) (A : Coding) (lent : List ℕ) (offset start count : ℕ) (memory : List ℕ) (first : ℕ)
+    (found : first ≡ firstLooked look A lent offset start (start + count)) where
+  by-first : (t : Bool) → leb (start + count) first ≡ t → lookedMemory look A lent offset start count memory ≡ cond t (putAt 0 (window A lent offset start count) memory) memory
+  by-first t e = ap (λ (x : Bool). cond x (putAt 0 (window A lent offset start count) memory) memory) (ap (leb (start + count)) (sym found) ∙ e)
+
+  pub looked-kept : first < start + count → lookedMemory look A lent offset start count memory ≡ memory
+  looked-kept h = by-first false (lt-leb (start + count) first h)
+
+  pub looked-put : start + count ≤ first → lookedMemory look A lent offset start count memory ≡ putAt 0 (window A lent offset start count) memory
+  looked-put h = by-first true (le-leb (start + count) first h)
+
+-- where nothing is looked at, it is written
+pub unlooked : (A : Coding) (lent : List ℕ) (offset start count : ℕ) (memory : List ℕ)
+    → lookedMemory false A lent offset start count memory ≡ putAt 0 (window A lent offset start count) memory
+unlooked A lent offset start count memory = looked-put false A lent offset start count memory (start + count) refl (omega arith)
+
+-- nor is there such a base in an alphabet of another width than Protein's
+pub other-width : (k : AlphabetType) (w : ℕ) → coding k .width ≡ w → (w ≡ 5 → ⊥) → k ≡ Protein → ⊥
+other-width k w is not-five e = not-five (sym is ∙ ap (λ (x : AlphabetType). coding x .width) e ∙ widths .of-protein)
+
+pub looked-others : (look : Bool) (k : AlphabetType) → (k ≡ Protein → ⊥) → (lent : List ℕ) (offset start end : ℕ) → start ≤ end
+    → end ≡ firstLooked look (coding k) lent offset start end
+looked-others true k other lent offset start end h = sym (lacking-none (coding k) lent offset (others-pass k other lent offset start end h))
+looked-others false k other lent offset start end h = refl

@@ -17,7 +17,7 @@ use Rattle.alphabet.specs.Symbols.{Coding}
 use Rattle.alphabet.specs.Names.{known, kindOf, numbered, numberedBy}
 use Rattle.alphabet.proofs.Laws.{lawful}
 use Rattle.windows.specs.declared.read.Read.{Read}
-use Rattle.windows.specs.Window.{window, covers, firstLacking, allAssigned, readAt, coveredAt, readWrites, readMemory, coveredMemory}
+use Rattle.windows.specs.Window.{window, covers, firstLacking, allAssigned, readAt, lentAt, coveredAt, readWrites, readMemory, coveredMemory}
 use Rattle.windows.specs.Workers.{Passes}
 use Rattle.windows.proofs.Windows.{window-of-text}
 use Rattle.windows.proofs.Assigned.{text-passes, lacking-none}
@@ -77,7 +77,7 @@ module _ (fold : Bool) (alphabet : ℕ) (text lent : List ℕ) (offset s e : ℕ
       never-lacking = le-leb e (firstLacking (numbered alphabet) lent offset s e) (omega (arith, lacking-none (numbered alphabet) lent offset passes))
 
       pub covered-told : coveredAt alphabet lent offset s e (length memory) ≡ Read.Bases (e - s)
-      unfolding coveredAt covers
+      unfolding coveredAt lentAt covers
       covered-told = rw (lt-ltb s e (serves .some), named, near, covering, le-leb (e - s) (length memory) room, never-lacking)
 
       pub covered-left : coveredMemory alphabet lent offset s e memory ≡ front symbols memory

@@ -47,16 +47,26 @@ readAt alphabet offset start end room =
 
 -- ---- the covered read
 
--- the same, before the memory every byte of the window's range, and behind it every base's code
-unfoldable pub coveredAt : ℕ → List ℕ → ℕ → ℕ → ℕ → ℕ → Read
-coveredAt alphabet lent offset start end room =
+-- the same, and before the memory every byte of the window's range
+unfoldable pub lentAt : ℕ → List ℕ → ℕ → ℕ → ℕ → ℕ → Read
+lentAt alphabet lent offset start end room =
     ask ltb start end else Read.Bases 0 then
     ask known alphabet else Read.Refused (by 8 []) then
     ask inBounds end && inBounds offset else Read.Refused (by 2 []) then
     ask covers (numbered alphabet) lent offset start end else Read.Refused (by 3 []) then
     ask leb (end - start) room else Read.Refused (by 4 []) then
-    ask allAssigned (numbered alphabet) lent offset start end else Read.Refused (by 18 (firstLacking (numbered alphabet) lent offset start end ∷ [])) then
     Read.Bases (end - start)
+
+-- a window that is accepted so far is asked for its bases' codes
+abbrev pub lookedAt : Coding → List ℕ → ℕ → ℕ → ℕ → Read → Read
+lookedAt A lent offset start end (Read.Refused q) = Read.Refused q
+lookedAt A lent offset start end (Read.Bases n) =
+    ask allAssigned A lent offset start end else Read.Refused (by 18 (firstLacking A lent offset start end ∷ [])) then
+    Read.Bases n
+
+-- the covered read: the codes last
+unfoldable pub coveredAt : ℕ → List ℕ → ℕ → ℕ → ℕ → ℕ → Read
+coveredAt alphabet lent offset start end room = lookedAt (numbered alphabet) lent offset start end (lentAt alphabet lent offset start end room)
 
 -- ---- memory
 

@@ -2,15 +2,18 @@
 use mathlib.Core.Path.{_≡_}
 use mathlib.Core.List.{List, map}
 use Prim.Native.Nat.{ℕ, _+_, _*_, _%_, _^_, _≤_, _<_}
-use mathlib.Core.Bool.{true}
+use mathlib.Core.Bool.{Bool, true, cond}
+use lib.Dec.{leb}
 use lib.ListN.{length}
 use Rattle.bits.specs.Tables.{tabulate, at}
 use Rattle.bits.specs.Streams.{bitAt, word, fields}
 use Rattle.bits.specs.Packing.{fileByte, firstByte, endByte}
+use Rattle.bits.specs.Memory.{putAt}
 use Rattle.alphabet.specs.Symbols.{Coding}
 use Rattle.alphabet.specs.Names.{kindOf}
 use Rattle.alphabet.specs.declared.kind.AlphabetType.{AlphabetType}
 use Rattle.alphabet.specs.declared.kind.AlphabetType.the-variants.{Dna2bit, Dna3bit}
+use Rattle.windows.specs.Window.{window, covers, firstLacking}
 use Rattle.windows.specs.declared.read.Engine.{Engine}
 use Rattle.windows.specs.declared.read.Read.{Read}
 use Rattle.windows.specs.declared.rolling.Held.{Held}
@@ -36,6 +39,19 @@ pub record Passes (A : Coding) (lent : List ℕ) (offset start at end : ℕ) : T
   pub from : start ≤ at
   pub to : at ≤ end
   pub each : (i : ℕ) → start ≤ i → i < at → A .assigned (word (bitAt 8 (fileByte lent offset)) (i * A .width) (A .width)) ≡ true
+
+-- a window whose codes are to be looked at is covered
+abbrev pub Looks : Bool → Coding → List ℕ → ℕ → ℕ → ℕ → Type 0
+Looks look A lent offset start end = look ≡ true → covers A lent offset start end ≡ true
+
+-- the first base whose code the list lacks, where it is looked for, and else the end
+abbrev pub firstLooked : Bool → Coding → List ℕ → ℕ → ℕ → ℕ → ℕ
+firstLooked look A lent offset start end = cond look (firstLacking A lent offset start end) end
+
+-- memory afterwards: with the window's bases at its front, unless such a base was found
+abbrev pub lookedMemory : Bool → Coding → List ℕ → ℕ → ℕ → ℕ → List ℕ → List ℕ
+lookedMemory look A lent offset start count memory =
+    cond (leb (start + count) (firstLooked look A lent offset start (start + count))) (putAt 0 (window A lent offset start count) memory) memory
 
 -- the bases that an answer promises, if any, fit
 abbrev pub Passed : Read → ℕ → ℕ → Type 0

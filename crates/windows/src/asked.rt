@@ -1,5 +1,4 @@
 // The questions of a read, in their order.
-use crate::lacking::first_lacking;
 use crate::read::Read;
 use alphabet::AlphabetType;
 use alphabet::Named;
@@ -8,7 +7,7 @@ use alphabet::kind_of_number;
 use bits::LIMIT;
 ghost use mathlib.Core.Path.{_≡_};
 ghost use Rattle.alphabet.specs.Names.{kindOf};
-ghost use Rattle.windows.specs.Window.{readAt, coveredAt};
+ghost use Rattle.windows.specs.Window.{readAt, lentAt};
 
 // The largest number that names an alphabet.
 const LAST_ALPHABET: u64 = 5;
@@ -45,8 +44,8 @@ pub fn asked(alphabet: u64, offset: usize, start: usize, end: usize, room: usize
     Read::Bases(end - start)
 }
 
-// The answer of a covered read: what a zero-filling one asks, memory aside, question 6 before the memory, and behind it whether every code is a symbol's. Memory
-// of `end` bytes is never too short.
+// The answer of a covered read before its codes are looked at: what a zero-filling one asks, memory aside, and question 6 before the memory. Memory of `end` bytes
+// is never too short.
 pub fn asked_covered(
     alphabet: u64,
     bytes: &[u8],
@@ -55,7 +54,7 @@ pub fn asked_covered(
     end: usize,
     room: usize,
 ) -> Read
-    ensures { λ r. ⌜ r ≡ coveredAt alphabet (now (bytes .entry)) offset start end room ⌝ }
+    ensures { λ r. ⌜ r ≡ lentAt alphabet (now (bytes .entry)) offset start end room ⌝ }
 {
     let plain = asked(alphabet, offset, start, end, end);
     let Read::Bases(count) = plain else {
@@ -64,8 +63,7 @@ pub fn asked_covered(
     if count == 0 {
         return plain;
     }
-    let kind = kind_of(alphabet);
-    let b = kind.bits_per_symbol();
+    let b = kind_of(alphabet).bits_per_symbol();
     if start * b / 8 < offset {
         return Read::Refused(Refusal::Uncovered);
     }
@@ -74,10 +72,6 @@ pub fn asked_covered(
     }
     if room < count {
         return Read::Refused(Refusal::ShortMemory);
-    }
-    let first = first_lacking(kind, bytes, offset, start, end);
-    if first < end {
-        return Read::Refused(Refusal::NoSymbol(first));
     }
     plain
 }

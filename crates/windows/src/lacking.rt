@@ -4,12 +4,12 @@ use crate::blocks::number;
 use crate::rolling::code_at;
 use alphabet::AlphabetType;
 ghost use mathlib.Core.Path.{_≡_};
-ghost use mathlib.Core.Bool.{true, false};
+ghost use mathlib.Core.Bool.{false};
 ghost use Prim.Native.Nat.{ℕ, _+_, _*_, _/_, _%_, _^_, _<_};
 ghost use Rattle.alphabet.specs.Symbols.{coding};
 ghost use Rattle.alphabet.specs.declared.kind.AlphabetType.the-variants.{Protein};
-ghost use Rattle.windows.specs.Window.{firstLacking, covers};
-ghost use Rattle.windows.specs.Workers.{Near, Lent, Passes};
+ghost use Rattle.windows.specs.Window.{firstLacking};
+ghost use Rattle.windows.specs.Workers.{Near, Lent, Passes, Looks, firstLooked};
 
 // Protein's bits per symbol.
 const WIDTH: usize = 5;
@@ -92,19 +92,23 @@ fn first_in_protein(bytes: &[u8], offset: usize, start: usize, end: usize) -> us
     first_alone(bytes, offset, rest, end)
 }
 
-// The same for any alphabet. No other one than Protein has codes of five bits.
+// The same for any alphabet, where it is looked for at all; else `end`. No other alphabet than Protein has codes of five bits.
 pub fn first_lacking(
     kind: AlphabetType,
+    look: bool,
     bytes: &[u8],
     offset: usize,
     start: usize,
     end: usize,
 ) -> usize
-    requires { ⌜ Near start end × (covers (coding kind) (now bytes) offset start end ≡ true) ⌝ }
-    ensures { λ r. ⌜ r ≡ firstLacking (coding kind) (now (bytes .entry)) offset start end ⌝ }
+    requires { ⌜ Near start end × Looks look (coding kind) (now bytes) offset start end ⌝ }
+    ensures { λ r. ⌜ r ≡ firstLooked look (coding kind) (now (bytes .entry)) offset start end ⌝ }
 {
     if kind.bits_per_symbol() != WIDTH {
         return end;
     }
-    first_in_protein(bytes, offset, start, end)
+    if look {
+        return first_in_protein(bytes, offset, start, end);
+    }
+    end
 }

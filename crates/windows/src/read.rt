@@ -5,17 +5,19 @@ use crate::asked::asked_covered;
 use crate::asked::kind_of;
 use crate::blocks::three_bits;
 use crate::fours::two_bits;
+use crate::lacking::first_lacking;
 use crate::plain::copy_file;
 use crate::rolling::roll;
 use alphabet::AlphabetType;
 use alphabet::Refusal;
 use alphabet::decoding_array;
 ghost use mathlib.Core.Path.{_≡_};
+ghost use Prim.Native.Nat.{_+_};
 ghost use lib.ListN.{length};
 ghost use Rattle.bits.specs.Memory.{front, putAt};
 ghost use Rattle.alphabet.specs.Symbols.{coding};
 ghost use Rattle.windows.specs.Window.{window, readAt, readWrites, readMemory, coveredAt, coveredMemory};
-ghost use Rattle.windows.specs.Workers.{Fits, Passed, served, Serves};
+ghost use Rattle.windows.specs.Workers.{Fits, Looks, firstLooked, lookedMemory, Passed, served, Serves};
 
 // What every read of a window answers: the bases written.
 pub enum Read {
@@ -51,19 +53,59 @@ fn rolled(
     roll(kind, &table, bytes, offset, start, count, out, 0);
 }
 
-// The same by the kind's own engine, where it has one.
-fn own(kind: AlphabetType, bytes: &[u8], offset: usize, start: usize, count: usize, out: &mut [u8])
-    requires { ⌜ Fits start count 0 (length (now out)) ⌝ }
-    ensures { λ _. ⌜ now (out .exit) ≡ putAt 0 (window (coding kind) (now (bytes .entry)) offset start count) (now (out .entry)) ⌝ }
+// The same, unless `look` is asked for and the code of a base is no symbol's. The answer is the first such base, or the window's end. All alphabets without an
+// engine of their own come here, so that the search is laid out here alone, and reads of the others carry nothing of it.
+fn looked(
+    kind: AlphabetType,
+    look: bool,
+    bytes: &[u8],
+    offset: usize,
+    start: usize,
+    count: usize,
+    out: &mut [u8],
+) -> usize
+    requires { ⌜ Fits start count 0 (length (now out)) × Looks look (coding kind) (now bytes) offset start (start + count) ⌝ }
+    ensures { λ r. ⌜ r ≡ firstLooked look (coding kind) (now (bytes .entry)) offset start (start + count) ⌝ }
+    ensures { λ _. ⌜ now (out .exit) ≡ lookedMemory look (coding kind) (now (bytes .entry)) offset start count (now (out .entry)) ⌝ }
+{
+    let end = start + count;
+    let first = first_lacking(kind, look, bytes, offset, start, end);
+    if first < end {
+        return first;
+    }
+    rolled(kind, bytes, offset, start, count, out);
+    first
+}
+
+// The same by the kind's own engine, where it has one: the codes of these alphabets are all symbols'.
+fn own(
+    kind: AlphabetType,
+    look: bool,
+    bytes: &[u8],
+    offset: usize,
+    start: usize,
+    count: usize,
+    out: &mut [u8],
+) -> usize
+    requires { ⌜ Fits start count 0 (length (now out)) × Looks look (coding kind) (now bytes) offset start (start + count) ⌝ }
+    ensures { λ r. ⌜ r ≡ firstLooked look (coding kind) (now (bytes .entry)) offset start (start + count) ⌝ }
+    ensures { λ _. ⌜ now (out .exit) ≡ lookedMemory look (coding kind) (now (bytes .entry)) offset start count (now (out .entry)) ⌝ }
 {
     match kind {
-        AlphabetType::Dna2bit => two_bits(bytes, offset, start, count, out),
-        AlphabetType::Dna3bit => three_bits(bytes, offset, start, count, out),
-        _ => rolled(kind, bytes, offset, start, count, out),
+        AlphabetType::Dna2bit => {
+            two_bits(bytes, offset, start, count, out);
+            start + count
+        }
+        AlphabetType::Dna3bit => {
+            three_bits(bytes, offset, start, count, out);
+            start + count
+        }
+        _ => looked(kind, look, bytes, offset, start, count, out),
     }
 }
 
-// The same by an engine. Those of one alphabet are called here and above, so that they stay functions of their own, and this one is laid into each read.
+// `count` bases from base `start` on, by an engine. Those of one alphabet are called here and above, so that they stay functions of their own, and this one is laid
+// into each read.
 fn written(
     engine: Engine,
     kind: AlphabetType,
@@ -78,14 +120,18 @@ fn written(
         ≡ putAt 0 (window (coding (served engine kind)) (now (bytes .entry)) offset start count) (now (out .entry)) ⌝ }
 {
     match engine {
-        Engine::Own => own(kind, bytes, offset, start, count, out),
+        Engine::Own => {
+            own(kind, false, bytes, offset, start, count, out);
+        }
         Engine::Fours => two_bits(bytes, offset, start, count, out),
         Engine::Blocks => three_bits(bytes, offset, start, count, out),
-        Engine::Any => rolled(kind, bytes, offset, start, count, out),
+        Engine::Any => {
+            looked(kind, false, bytes, offset, start, count, out);
+        }
     }
 }
 
-// The second half of every read: what its questions answered, after the bases of an accepted window are written.
+// The second half of a zero-filling read: what its questions answered, after the bases of an accepted window are written.
 fn answered(
     answer: Read,
     engine: Engine,
@@ -178,7 +224,25 @@ pub fn decode_covered(
     ensures { λ _. ⌜ now (out .exit) ≡ coveredMemory alphabet (now (bytes .entry)) «byte_offset» start end (now (out .entry)) ⌝ }
 {
     let told = asked_covered(alphabet, bytes, byte_offset, start, end, out.len());
-    answered(told, Engine::Own, alphabet, bytes, byte_offset, start, out)
+    let Read::Bases(count) = told else {
+        return told;
+    };
+    if count == 0 {
+        return told;
+    }
+    let first = own(
+        kind_of(alphabet),
+        true,
+        bytes,
+        byte_offset,
+        start,
+        count,
+        out,
+    );
+    if first < end {
+        return Read::Refused(Refusal::NoSymbol(first));
+    }
+    told
 }
 
 // The engine of Dna2bit: four bases from a byte.

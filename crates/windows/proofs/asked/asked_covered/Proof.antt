@@ -8,11 +8,10 @@ use Rattle.alphabet.specs.Symbols.{coding}
 use Rattle.alphabet.specs.Names.{kindOf, numbered}
 use Rattle.alphabet.specs.declared.kind.AlphabetType.{AlphabetType}
 use Rattle.alphabet.proofs.Laws.{lawful}
-use Rattle.windows.specs.Window.{covers, firstLacking}
-use Rattle.windows.specs.Workers.{Near}
+use Rattle.windows.specs.Window.{covers}
 use Rattle.windows.proofs.Turns.{bit-fits}
 use Rattle.windows.proofs.Answering.{covered-yes, covered-early, covered-late, range-order}
-use Rattle.windows.proofs.Answering.{Placed, placed, placed-some, placed-near, covered-refused, covered-empty, covered-not, covered-short, covered-lacking, covered-bases}
+use Rattle.windows.proofs.Answering.{Placed, placed, placed-some, placed-near, lent-refused, lent-empty, lent-not, lent-short, lent-bases}
 use Rattle.windows.proofs.asked.asked_covered.Statement.{statement}
 use Rattle.windows.proofs.asked.asked_covered.Tie as tie
 
@@ -57,14 +56,14 @@ returns : tie.Need-returns
 returns c =
     let q = c .before .before in
     let a = q .before .before .args in
-    covered-refused (a .alphabet) (a .bytes .now) (a .offset) (a .start) (a .end) (a .room) (q .asked .result) (q .asked .ensures) _ (c .enum-told .given .1)
+    lent-refused (a .alphabet) (a .bytes .now) (a .offset) (a .start) (a .end) (a .room) (q .asked .result) (q .asked .ensures) _ (c .enum-told .given .1)
 
 returns-2 : tie.Need-returns-2
 returns-2 c =
     let p = c .before .before in
     let q = p .before .before in
     let a = q .before .before .args in
-    covered-empty (a .alphabet) (a .bytes .now) (a .offset) (a .start) (a .end) (a .room) (q .asked .result) (q .asked .ensures) _ (p .plain .given .1) (c .if1 .taken)
+    lent-empty (a .alphabet) (a .bytes .now) (a .offset) (a .start) (a .end) (a .room) (q .asked .result) (q .asked .ensures) _ (p .plain .given .1) (c .if1 .taken)
 
 kind-of-requires : tie.Need-kind-of-requires
 kind-of-requires c κs = search needs
@@ -76,7 +75,7 @@ mul-if2 : tie.Need-mul-if2
 mul-if2 c = omega (arith, bit-fits {i = start c .args .start} (omega (arith, placed-some (window c), placed-near (window c))) (narrow c))
 
 returns-3 : tie.Need-returns-3
-returns-3 c = let p = c .before in covered-not (window p) (start p .args .bytes .now) (start p .args .room) (covered-early _ _ _ _ _ (rw (← width (c .before)) (c .if2 .taken)))
+returns-3 c = let p = c .before in lent-not (window p) (start p .args .bytes .now) (start p .args .room) (covered-early _ _ _ _ _ (rw (← width (c .before)) (c .if2 .taken)))
 
 mul-if3 : tie.Need-mul-if3
 mul-if3 c = omega (arith, end-fits (c .before))
@@ -90,42 +89,13 @@ sub-if3 c = let p = c .before in omega (arith, c .if2 .left, range-order (p .bit
 returns-4 : tie.Need-returns-4
 returns-4 c =
     let p = c .before .before in
-    covered-not (window p) (start p .args .bytes .now) (start p .args .room) (covered-late _ _ _ _ _ (begins (c .before)) (rw (← width p) (c .if3 .taken)))
+    lent-not (window p) (start p .args .bytes .now) (start p .args .room) (covered-late _ _ _ _ _ (begins (c .before)) (rw (← width p) (c .if3 .taken)))
 
 returns-5 : tie.Need-returns-5
-returns-5 c = let p = c .before .before .before in covered-short (window p) (start p .args .bytes .now) (start p .args .room) (all-lent (c .before)) (c .if4 .taken)
-
--- the place where the width is known, from where there is memory for the bases
-abbrev known : (c : tie.Else4) → tie.After-bits-per-symbol
-known c = c .before .before .before
-
-first-lacking-requires : tie.Need-first-lacking-requires
-first-lacking-requires c κs =
-    let p = known c in
-    let a = start p .args in
-    let near : Near (a .start) (a .end) = record { order = omega (arith, placed-some (window p)); far = placed-near (window p) } in
-    let kind = p .before .kind-of .ensures in
-    (near, ap (λ (k : AlphabetType). covers (coding k) (a .bytes .now) (a .offset) (a .start) (a .end)) kind ∙ all-lent (c .before))
-
--- the first base whose code the alphabet's list lacks
-first : (c : tie.After-first-lacking)
-    → (let a = start (known (c .before)) .args in c .first-lacking .result ≡ firstLacking (numbered (a .alphabet)) (a .bytes .now) (a .offset) (a .start) (a .end))
-first c =
-    let p = known (c .before) in
-    let a = start p .args in
-    c .first-lacking .ensures ∙ ap (λ (k : AlphabetType). firstLacking (coding k) (a .bytes .now) (a .offset) (a .start) (a .end)) (p .before .kind-of .ensures)
+returns-5 c = let p = c .before .before .before in lent-short (window p) (start p .args .bytes .now) (start p .args .room) (all-lent (c .before)) (c .if4 .taken)
 
 returns-6 : tie.Need-returns-6
-returns-6 c =
-    let f = c .before in
-    let p = known (f .before) in
-    covered-lacking (window p) (start p .args .bytes .now) (start p .args .room) (all-lent (f .before .before)) (f .before .if4 .left) _ (first f) (c .if5 .taken)
-
-returns-7 : tie.Need-returns-7
-returns-7 c =
-    let f = c .before in
-    let p = known (f .before) in
-    covered-bases (window p) (start p .args .bytes .now) (start p .args .room) (all-lent (f .before .before)) (f .before .if4 .left) _ (first f) (c .if5 .left)
+returns-6 c = let p = c .before .before .before in lent-bases (window p) (start p .args .bytes .now) (start p .args .room) (all-lent (c .before)) (c .if4 .left)
 
 pub asked-covered-spec : {M : Type 1} → statement M
 asked-covered-spec =
@@ -145,6 +115,4 @@ asked-covered-spec =
     sub-if3
     returns-4
     returns-5
-    first-lacking-requires
-    returns-6
-    returns-7)
+    returns-6)

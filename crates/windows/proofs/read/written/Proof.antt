@@ -1,4 +1,5 @@
-use mathlib.Core.Path.{_≡_, ap}
+use mathlib.Core.Path.{_≡_, sym, ap, _∙_}
+use mathlib.Core.Bool.{false, true≢false}
 use mathlib.Core.List.{List}
 use Prim.Native.Nat.{ℕ}
 use borrow.Author.Needs.{needs}
@@ -6,8 +7,9 @@ use Rattle.bits.specs.Memory.{putAt}
 use Rattle.alphabet.specs.Symbols.{coding}
 use Rattle.windows.specs.declared.read.Engine.{Engine}
 use Rattle.windows.specs.Window.{window}
-use Rattle.windows.specs.Workers.{served}
+use Rattle.windows.specs.Workers.{lookedMemory, served}
 use Rattle.windows.proofs.WholeBytes.{of-kind}
+use Rattle.windows.proofs.Assigned.{unlooked}
 use Rattle.windows.proofs.read.written.Statement.{statement}
 use Rattle.windows.proofs.read.written.Tie as tie
 
@@ -20,11 +22,17 @@ by-engine s e out told w =
     of-kind (served e (a .kind)) (served (a .engine) (a .kind)) (a .bytes .now) (a .offset) (a .start) (a .count) (a .out .now) out
     (ap (λ (x : Engine). served x (a .kind)) told) w
 
+-- where nothing is looked at, all is written
+all-written : (s : tie.Start) → (let a = s .args in let A = coding (a .kind) in
+    lookedMemory false A (a .bytes .now) (a .offset) (a .start) (a .count) (a .out .now)
+    ≡ putAt 0 (window A (a .bytes .now) (a .offset) (a .start) (a .count)) (a .out .now))
+all-written s = let a = s .args in unlooked (coding (a .kind)) (a .bytes .now) (a .offset) (a .start) (a .count) (a .out .now)
+
 enum-told : tie.Need-enum-told
 enum-told c = search needs
 
 own-requires : tie.Need-own-requires
-own-requires c κs = search needs
+own-requires c κs = (c .before .before .before .before .before .pre, λ e. absurd (true≢false (sym e)))
 
 enum-told-2 : tie.Need-enum-told-2
 enum-told-2 c = search needs
@@ -41,8 +49,8 @@ three-bits-requires c κs = search needs
 enum-told-4 : tie.Need-enum-told-4
 enum-told-4 c = search needs
 
-rolled-requires : tie.Need-rolled-requires
-rolled-requires c κs = search needs
+looked-requires : tie.Need-looked-requires
+looked-requires c κs = (c .before .before .before .before .before .pre, λ e. absurd (true≢false (sym e)))
 
 same-length : tie.Need-same-length
 same-length c = search needs
@@ -51,7 +59,8 @@ returns : tie.Need-returns
 returns c =
     let w = c .before .before in
     let t = w .before .before in
-    by-engine (t .before .before .before .before) Engine.Own _ (t .enum-told .given .1) (w .own .ensures)
+    let s = t .before .before .before .before in
+    by-engine s Engine.Own _ (t .enum-told .given .1) (w .own .ensures .1 ∙ all-written s)
 
 same-length-2 : tie.Need-same-length-2
 same-length-2 c = search needs
@@ -78,7 +87,8 @@ returns-4 : tie.Need-returns-4
 returns-4 c =
     let w = c .before .before in
     let t = w .before .before in
-    by-engine (t .before .before .before .before) Engine.Any _ (t .enum-told4 .given .1) (w .rolled .ensures)
+    let s = t .before .before .before .before in
+    by-engine s Engine.Any _ (t .enum-told4 .given .1) (w .looked .ensures .1 ∙ all-written s)
 
 pub written-spec : {M : Type 1} → statement M
 written-spec =
@@ -91,7 +101,7 @@ written-spec =
     enum-told-3
     three-bits-requires
     enum-told-4
-    rolled-requires
+    looked-requires
     same-length
     returns
     same-length-2
