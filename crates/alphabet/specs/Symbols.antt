@@ -1,4 +1,4 @@
--- Symbols and codes. States document 01, "Leaf 1: symbols and codes", and the rule of request A1 for one byte.
+-- Symbols and codes. States document 01, "Leaf 1: symbols and codes", the rule of request A1 for one byte, and for request A7 which codes a list has.
 use Prim.Native.Nat.{ℕ, suc, _-_, _^_, _≤_, _<_}
 use Prim.Native.Char.{code as ascii}
 use mathlib.Core.Bool.{Bool, true, false, cond, not, _||_, _&&_}

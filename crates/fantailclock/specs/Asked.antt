@@ -1,5 +1,5 @@
--- The questions of each call in their order. States document 01, "The questions, and the number when the answer is no": a number comes out only for its own
--- "no". A call's number is that of the first of its questions that is answered no, and 0 where none is.
+-- The questions of each call in their order. States document 01, "The questions, and the number when the answer is no", and request A7's question: a number comes
+-- out only for its own "no". A call's number is that of the first of its questions that is answered no, and 0 where none is.
 use Prim.Native.Nat.{ℕ, _+_, _-_, _*_, _/_}
 use mathlib.Core.Bool.{Bool, true, false, cond, _&&_}
 use mathlib.Core.List.{List, [], _∷_}

@@ -12,7 +12,7 @@ ghost use Rattle.bits.specs.Memory.{front};
 ghost use Rattle.fantailclock.specs.Shapes.{number, count};
 ghost use Rattle.fantailclock.specs.Kinds.{bitsTold, containsTold, nameTold, nameMemory};
 
-// The version of this boundary; a change of a struct raises it.
+// The version of this boundary; a change of a struct, or of what a function takes or answers, raises it.
 #[no_mangle]
 pub extern "C" fn fc_abi_version() -> u64
     ensures { λ r. ⌜ r ≡ 4 ⌝ }

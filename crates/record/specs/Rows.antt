@@ -256,7 +256,8 @@ rows =
     ∷ covers Protein (0xf0 ∷ []) 0 1 gives refuses 18 (0 ∷ [])
     ∷ covers Protein (0xf8 ∷ []) 0 1 gives refuses 18 (0 ∷ [])
     ∷ covers Protein (0xef ∷ 0x80 ∷ []) 0 2 gives refuses 18 (0 ∷ [])
-    -- 3 and 4 before 18, which is counted from the sequence's start; what stands before the window and behind it is not asked about
+    -- 2, 3 and 4 before 18, which is counted from the sequence's start; what stands before the window and behind it is not asked about
+    ∷ cover 3 (0xe8 ∷ []) 0 0 1152921504606846977 9 gives no 2
     ∷ cover 3 (0xe8 ∷ []) 0 0 2 9 gives no 3
     ∷ cover 3 (0xe8 ∷ []) 0 0 1 0 gives no 4
     ∷ cover 3 (0xe8 ∷ []) 5 8 9 9 gives tells (refused 18 (8 ∷ []))

@@ -21,7 +21,7 @@ window A lent offset start n = map (A .symbol) (codesFrom (A .width) lent offset
 unfoldable pub covers : Coding → List ℕ → ℕ → ℕ → ℕ → Bool
 covers A lent offset start end = leb offset (firstByte (A .width) start) && leb (endByte (A .width) end) (offset + length lent)
 
--- how many of a list's codes stand before the first that the alphabet's own list lacks; all of them where it lacks none
+-- of some codes, how many stand before the first that the alphabet's own list lacks; all of them where it lacks none
 unfoldable pub assignedFront : Coding → List ℕ → ℕ
 assignedFront A [] = 0
 assignedFront A (c ∷ codes) = cond (A .assigned c) (suc (assignedFront A codes)) 0
@@ -47,7 +47,7 @@ readAt alphabet offset start end room =
 
 -- ---- the covered read
 
--- the same, and before the memory every byte of the window's range
+-- the same, and before the memory every byte of the window's range; codes are not asked about yet
 unfoldable pub lentAt : ℕ → List ℕ → ℕ → ℕ → ℕ → ℕ → Read
 lentAt alphabet lent offset start end room =
     ask ltb start end else Read.Bases 0 then
@@ -57,7 +57,7 @@ lentAt alphabet lent offset start end room =
     ask leb (end - start) room else Read.Refused (by 4 []) then
     Read.Bases (end - start)
 
--- a window that is accepted so far is asked for its bases' codes
+-- a window that is accepted so far is asked for its bases' codes; an empty one has none
 abbrev pub lookedAt : Coding → List ℕ → ℕ → ℕ → ℕ → Read → Read
 lookedAt A lent offset start end (Read.Refused q) = Read.Refused q
 lookedAt A lent offset start end (Read.Bases n) =

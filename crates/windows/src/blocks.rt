@@ -16,7 +16,7 @@ ghost use Rattle.alphabet.specs.declared.kind.AlphabetType.the-variants.{Dna3bi
 ghost use Rattle.windows.specs.Window.{window};
 ghost use Rattle.windows.specs.Workers.{Fits, Decodes, symbolsOf};
 
-// The number that n bytes write, at most eight.
+// The number that the n bytes from byte i on write, at most eight; the search for codes without a symbol takes it too.
 pub fn number(bytes: &[u8], i: usize, n: usize) -> u64
     requires { ⌜ (n ≤ 8) × (i + n ≤ length (now bytes)) ⌝ }
     ensures { λ r. ⌜ r ≡ word (bitAt 8 (at (now (bytes .entry)))) (i * 8) (n * 8) ⌝ }

@@ -51,7 +51,7 @@ fn pass_many(bytes: &[u8], offset: usize, start: usize, end: usize) -> usize
     at
 }
 
-// The same for eleven bases or fewer, all at once.
+// The same for the rest, all at once; where more than eleven bases are left none is passed.
 fn pass_rest(bytes: &[u8], offset: usize, start: usize, end: usize) -> usize
     requires { ⌜ Lent (now bytes) offset start end ⌝ }
     ensures { λ r. ⌜ Passes (coding Protein) (now (bytes .entry)) offset start r end ⌝ }
@@ -67,7 +67,7 @@ fn pass_rest(bytes: &[u8], offset: usize, start: usize, end: usize) -> usize
     end
 }
 
-// The first base from `start` on whose code is no symbol's, one at a time.
+// The first base from `start` on whose code is no symbol's, looked for one at a time; `end` where there is none.
 fn first_alone(bytes: &[u8], offset: usize, start: usize, end: usize) -> usize
     requires { ⌜ Near start end ⌝ }
     ensures { λ r. ⌜ r ≡ firstLacking (coding Protein) (now (bytes .entry)) offset start end ⌝ }

@@ -53,8 +53,8 @@ fn rolled(
     roll(kind, &table, bytes, offset, start, count, out, 0);
 }
 
-// The same, unless `look` is asked for and the code of a base is no symbol's. The answer is the first such base, or the window's end. All alphabets without an
-// engine of their own come here, so that the search is laid out here alone, and reads of the others carry nothing of it.
+// The same, unless `look` is asked for and the code of a base is no symbol's. The answer is the first such base, or the window's end. All reads come here but those
+// by the engine of one alphabet, so that the search is laid out here alone, and the others carry nothing of it.
 fn looked(
     kind: AlphabetType,
     look: bool,
@@ -105,7 +105,7 @@ fn own(
 }
 
 // `count` bases from base `start` on, by an engine. Those of one alphabet are called here and above, so that they stay functions of their own, and this one is laid
-// into each read.
+// into each zero-filling read.
 fn written(
     engine: Engine,
     kind: AlphabetType,
@@ -211,7 +211,7 @@ pub fn decode_string_from_bytes(alphabet: u64, bytes: &[u8], seq_len: usize, out
 }
 
 // The covered read: the same bases, where every byte of the window's range is lent and every base's code is a symbol's; else refused by 3, and by 18 with the
-// first base that has none.
+// first base whose code is no symbol's.
 pub fn decode_covered(
     alphabet: u64,
     bytes: &[u8],
@@ -230,15 +230,8 @@ pub fn decode_covered(
     if count == 0 {
         return told;
     }
-    let first = own(
-        kind_of(alphabet),
-        true,
-        bytes,
-        byte_offset,
-        start,
-        count,
-        out,
-    );
+    let kind = kind_of(alphabet);
+    let first = own(kind, true, bytes, byte_offset, start, count, out);
     if first < end {
         return Read::Refused(Refusal::NoSymbol(first));
     }
