@@ -3,9 +3,9 @@ use mathlib.Core.Path.{_≡_, refl, sym, ap, ap₂, _∙_, subst}
 use mathlib.Core.Bool.{Bool, true, false, cond, _&&_, true≢false}
 use mathlib.Core.List.{List, [], _∷_, _++_}
 use mathlib.Core.Option.{none, some, Option·some-injective, Option·none-ne-some}
-use Prim.Native.Nat.{ℕ, zero, suc, _≤_, _<_}
+use Prim.Native.Nat.{ℕ, zero, suc, _≤_, _<_, max}
 use native.Mathlib.Omega.{arith}
-use borrow.Author.Tests.{le-leb, leb-true, leb-false, eqb-true}
+use borrow.Author.Tests.{le-leb, lt-leb, leb-true, leb-false, eqb-true}
 use lib.Count.{trailingZeros}
 use lib.Dec.{leb, eqb, lit≤}
 use lib.ListN.{length, getD, take, List·getD-eq-default}
@@ -17,8 +17,9 @@ use Rattle.alphabet.specs.Questions.{ask_else_then_, Reply, accepted, re
 use Rattle.alphabet.specs.declared.refusal.Refusal.{Refusal}
 use Rattle.alphabet.specs.declared.refusal.Refusal.the-variants.{Unsound, TooFar, Uncovered, ShortMemory, NonMember, BadSkip, Outstanding, NoAlphabet, TooWide, NoSymbol}
 use Rattle.alphabet.specs.Names.{displayName, nameOf, kinds, numberOf, known, kindOf, namedAt}
-use Rattle.alphabet.specs.Guess.{order, masked, lowest, guessOf, freshGuesser, soundGuesser, guesserAfter, guesserUpdateAt, guessAt}
-use Rattle.alphabet.specs.Answers.{namedReply, namedTold, foldNumber, guesserUpdatedReply, guesserUpdateTold, guessedReply, guessTold}
+use Rattle.alphabet.specs.Guess.{order, masked, lowest, guessOf, holdsAll, freshGuesser, soundGuesser, guesserAfter, guesserUpdateAt, guessAt}
+use Rattle.alphabet.specs.Genome.{later, laterAt}
+use Rattle.alphabet.specs.Answers.{namedReply, namedTold, laterTold, foldNumber, guesserUpdatedReply, guesserUpdateTold, guessedReply, guessTold}
 use Rattle.alphabet.specs.declared.kind.AlphabetType.{AlphabetType}
 use Rattle.alphabet.specs.declared.kind.AlphabetType.the-variants.{Dna2bit, Dna3bit, DnaIupac, Protein, Ascii, Unknown}
 use Rattle.alphabet.specs.declared.kind.Name.{Name}
@@ -164,6 +165,52 @@ named-refused n q e = go (known n) e
     go true e = absurd (let z : _≡_ {A = ℕ} 0 1 = cc in omega arith)
     go false e = (refl, cc)
 
+-- no two kinds have one number
+pub same-kind : (j k : AlphabetType) → numberOf j ≡ numberOf k → j ≡ k
+same-kind j k e = sym (kind-number j) ∙ ap kindOf e ∙ kind-number k
+
+-- ---- the later of two
+
+-- its number is the greater
+pub later-max : (j k : AlphabetType) → numberOf (later j k) ≡ max (numberOf j) (numberOf k)
+unfolding later
+later-max j k = go (leb (numberOf j) (numberOf k)) refl
+  where
+    go : (b : Bool) → leb (numberOf j) (numberOf k) ≡ b → numberOf (cond b k j) ≡ max (numberOf j) (numberOf k)
+    go true e = omega (arith, leb-true (numberOf j) (numberOf k) e)
+    go false e = omega (arith, leb-false (numberOf j) (numberOf k) e)
+
+-- the greater of two numbers names an alphabet exactly where both do
+known-max : (one other : ℕ) → known one && known other ≡ known (max one other)
+known-max one other = go (known one) refl (known other) refl
+  where
+    go : (a : Bool) → known one ≡ a → (b : Bool) → known other ≡ b → a && b ≡ known (max one other)
+    go true p true q = sym (le-leb (max one other) 5 (omega (arith, leb-true one 5 p, leb-true other 5 q)))
+    go true p false q = sym (lt-leb (max one other) 5 (omega (arith, leb-false other 5 q)))
+    go false p b q = sym (lt-leb (max one other) 5 (omega (arith, leb-false one 5 p)))
+
+-- and then it names the later one
+pub later-named : (one other : ℕ) → laterAt one other ≡ namedAt (max one other)
+unfolding laterAt namedAt
+later-named one other =
+    go (known one && known other) refl ∙ ap (λ (b : Bool). ask b else Named.Refused (by 8 []) then Named.Kind (kindOf (max one other))) (known-max one other)
+  where
+    kind : one ≤ 5 → other ≤ 5 → later (kindOf one) (kindOf other) ≡ kindOf (max one other)
+    kind h l =
+        same-kind _ _
+        (later-max (kindOf one) (kindOf other) ∙ ap₂ max (number-kind one h) (number-kind other l) ∙ sym (number-kind (max one other) (omega arith)))
+
+    go : (b : Bool) → known one && known other ≡ b
+        → (ask b else Named.Refused (by 8 []) then Named.Kind (later (kindOf one) (kindOf other)))
+        ≡ (ask b else Named.Refused (by 8 []) then Named.Kind (kindOf (max one other)))
+    go true e = let p = both-true (known one) (known other) e in ap Named.Kind (kind (leb-true one 5 (p .0)) (leb-true other 5 (p .1)))
+    go false e = refl
+
+-- of two kinds' numbers it tells the later kind
+pub later-kinds : (j k : AlphabetType) → laterAt (numberOf j) (numberOf k) ≡ Named.Kind (later j k)
+unfolding laterAt
+later-kinds j k = rw (known-number j, known-number k, kind-number j, kind-number k)
+
 -- ---- names
 
 pub record Names : Type 0 where
@@ -208,6 +255,13 @@ named-told n = go (known n) refl
     go : (b : Bool) → leb n 5 ≡ b → namedReply (ask b else Named.Refused (by 8 []) then Named.Kind (kindOf n)) ≡ (ask b else refused 8 [] then accepted (n ∷ []))
     go true e = ap (λ (x : ℕ). accepted (x ∷ [])) (number-kind n (leb-true n 5 e))
     go false e = refl
+
+-- `later_alphabet`
+pub later-told : (one other : ℕ) → namedReply (laterAt one other) ≡ laterTold one other
+later-told one other =
+    ap namedReply (later-named one other)
+    ∙ named-told (max one other)
+    ∙ ap (λ (b : Bool). ask b else refused 8 [] then accepted (max one other ∷ [])) (sym (known-max one other))
 
 -- the guesser's `update`
 pub update-told : (g : AlphabetGuesser) (text : List ℕ) → guesserUpdatedReply (guesserUpdateAt g text) ≡ guesserUpdateTold g text
@@ -274,6 +328,11 @@ guess-sound g e = rw e
 pub named-whole : (r : Named) (n : ℕ) → r ≡ namedAt n → (r ≡ namedAt n) × (namedReply r ≡ namedTold n)
 named-whole r n e = (e, ap namedReply e ∙ named-told n)
 
+pub later-whole : (r : Named) (one other greater : ℕ) → max one other ≡ greater → r ≡ namedAt greater → (r ≡ laterAt one other) × (namedReply r ≡ laterTold one other)
+later-whole r one other greater m e =
+    let is : r ≡ laterAt one other = e ∙ ap namedAt (sym m) ∙ sym (later-named one other) in
+    (is, ap namedReply is ∙ later-told one other)
+
 pub update-whole : (r : GuesserUpdated) (g : AlphabetGuesser) (text : List ℕ) → r ≡ guesserUpdateAt g text
     → (r ≡ guesserUpdateAt g text) × (guesserUpdatedReply r ≡ guesserUpdateTold g text)
 update-whole r g text e = (e, ap guesserUpdatedReply e ∙ update-told g text)
@@ -314,9 +373,13 @@ module _ (fold : Bool) (text : List ℕ) (bytes : Bytes text) where
   unfolding freshGuesser guessOf
   fresh-guess u g e f = f ∙ ap guessAt e ∙ guess-sound after-text (stays-sound (freshGuesser fold) text bytes fresh-sound)
 
--- every byte of a text is a member of the guessed alphabet, where it is packed by the choice that it was guessed by
+-- each byte of a text that an alphabet holds is a member
+pub held-members : (fold : Bool) (k : AlphabetType) (text : List ℕ) → holdsAll fold k text ≡ true → (j : ℕ) → j < length text → codingBy fold k .member (at text j) ≡ true
+held-members = holds-each
+
+-- so every byte of a text is a member of the guessed alphabet, where it is packed by the choice that it was guessed by
 pub guess-members : (fold : Bool) (text : List ℕ) → Bytes text → (j : ℕ) → j < length text → codingBy fold (guessOf fold text) .member (at text j) ≡ true
-guess-members fold text bytes = holds-each fold (guessOf fold text) text (guess-holds fold text bytes)
+guess-members fold text bytes = held-members fold (guessOf fold text) text (guess-holds fold text bytes)
 
 -- ---- tables
 

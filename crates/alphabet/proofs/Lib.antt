@@ -4,5 +4,6 @@ pub mod Laws
 pub mod Masks
 pub mod Turns
 pub mod Calls
+pub mod Combining
 pub mod Runs
 pub mod Unfolded

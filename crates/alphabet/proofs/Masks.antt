@@ -3,7 +3,7 @@ use mathlib.Core.Path.{_≡_, refl, sym, ap, ap₂, _∙_, subst}
 use mathlib.Core.Bool.{Bool, true, false, cond, _&&_, true≢false}
 use mathlib.Core.List.{List, [], _∷_, _++_}
 use Prim.Native.Nat.{ℕ, zero, suc, _+_, _*_, _-_, _/_, _%_, _^_, _<_, _≤_}
-use native.Mathlib.Nat.{le-of-suc-le-suc, not-suc-le-zero, mod-lt, le-refl, le-trans, pow-zero, pow-suc, div-one, div-div-eq-div-mul, mul-comm}
+use native.Mathlib.Nat.{le-of-suc-le-suc, not-suc-le-zero, mod-lt, le-refl, le-trans, pow-zero, pow-suc, div-div-eq-div-mul, mul-comm}
 use native.Mathlib.Omega.{arith}
 use borrow.Author.Tests.{eqb-true, eq-eqb, lt-ltb}
 use lib.Bits.{bitAnd, and-shr, and-mod, and-le-l}
@@ -164,7 +164,7 @@ pub mask-takes : (fold : Bool) (i v : ℕ) → i < 5 → isSet i (maskOf (canon 
 mask-takes fold i v h = mask-bit i (canon fold v) h ∙ member-folded fold (getD order i Unknown) v
 
 -- an alphabet holds a text by the choice exactly when it holds the text by the choice as it is
-holds-folded : (fold : Bool) (k : AlphabetType) (text : List ℕ) → holdsAll false k (folded fold text) ≡ holdsAll fold k text
+pub holds-folded : (fold : Bool) (k : AlphabetType) (text : List ℕ) → holdsAll false k (folded fold text) ≡ holdsAll fold k text
 unfolding holdsAll
 holds-folded false k text = refl
 holds-folded true k [] = refl

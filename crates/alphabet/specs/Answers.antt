@@ -1,7 +1,7 @@
 -- Answers by number. States document 01, "Code places and language forms", its last rule: for each answer that is an enum, the number and the values of
 -- its cases, and then what the call tells in these terms. A state that comes back on a refusal is told by the call's own definition.
-use Prim.Native.Nat.{ℕ}
-use mathlib.Core.Bool.{Bool, true, false}
+use Prim.Native.Nat.{ℕ, max}
+use mathlib.Core.Bool.{Bool, true, false, _&&_}
 use mathlib.Core.List.{List, [], _∷_}
 use lib.Count.{trailingZeros}
 use Rattle.alphabet.specs.Questions.{ask_else_then_, Reply, accepted, refused, refusalReply}
@@ -21,6 +21,10 @@ namedReply (Named.Refused q) = refusalReply q
 -- it is the number asked about
 abbrev pub namedTold : ℕ → Reply
 namedTold number = ask known number else refused 8 [] then accepted (number ∷ [])
+
+-- `later_alphabet`: the greater of two numbers that both name an alphabet
+abbrev pub laterTold : ℕ → ℕ → Reply
+laterTold one other = ask known one && known other else refused 8 [] then accepted (max one other ∷ [])
 
 -- the choice by number: 1 to fold, 0 not to
 abbrev pub foldNumber : Bool → ℕ

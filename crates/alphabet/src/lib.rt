@@ -18,6 +18,7 @@ pub use kind::AlphabetType;
 pub use kind::Name;
 pub use kind::Named;
 pub use kind::kind_of_number;
+pub use kind::later_alphabet;
 pub use mask::ALPHABET_ORDER;
 pub use refusal::Refusal;
 pub use symbols::FIRST_ENCODED;

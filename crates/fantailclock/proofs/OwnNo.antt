@@ -12,10 +12,11 @@ use Rattle.alphabet.specs.Questions.{ask_else_then_, by, numberIn, inBounds}
 use Rattle.alphabet.specs.Symbols.{Coding}
 use Rattle.alphabet.specs.Names.{known, numbered, numberedBy, namedAt}
 use Rattle.alphabet.specs.Guess.{soundGuesser, guesserUpdateAt}
+use Rattle.alphabet.specs.Genome.{laterAt}
 use Rattle.alphabet.specs.Answers.{namedReply, guesserUpdatedReply, guesserUpdateTold, guessTold}
 use Rattle.alphabet.specs.declared.guesser.AlphabetGuesser.{AlphabetGuesser}
 use Rattle.alphabet.specs.declared.guesser.GuesserUpdated.{GuesserUpdated}
-use Rattle.alphabet.proofs.Calls.{named-told, update-told, guess-told}
+use Rattle.alphabet.proofs.Calls.{named-told, later-told, update-told, guess-told}
 use Rattle.packing.specs.declared.first.First.{First}
 use Rattle.packing.specs.declared.encoder.SequenceEncoder.{SequenceEncoder}
 use Rattle.packing.specs.Encode.{firstFrom, unlessBad, soundEncoder, pieceBitCount, startEncoderAt, encodeAt, updateAt, finalizeAt}
@@ -38,7 +39,7 @@ use Rattle.streaming.specs.declared.decoder.Streamed.{Streamed}
 use Rattle.streaming.specs.declared.decoder.Ended.{Ended}
 use Rattle.streaming.specs.Stream.{startStreamAt, streamAt, movedBy, moved, takes, basesOf, statusOf, endAt, greatest, soundStream}
 use Rattle.streaming.specs.Answers.{streamStartedReply, streamedReply, endedReply}
-use Rattle.fantailclock.specs.Asked.{Asked, _unless_, firstNo, clean, askedOfGuesser, askedOfAlphabet, askedOfText, askedOfPiece, askedOfEnd, askedOfRange}
+use Rattle.fantailclock.specs.Asked.{Asked, _unless_, firstNo, clean, askedOfGuesser, askedOfAlphabet, askedOfTwo, askedOfText, askedOfPiece, askedOfEnd, askedOfRange}
 use Rattle.fantailclock.specs.Asked.{askedOfRead, askedOfCovered, askedOfStart, askedOfStream, askedOfStreamEnd}
 use Rattle.fantailclock.specs.Asked.{askedOfGuesserNumbers, askedOfEncoderNumbers, askedOfStreamNumbers}
 use Rattle.fantailclock.specs.declared.shapes.Guesser.{Guesser}
@@ -76,6 +77,10 @@ guess-number g = asked numberIn (soundGuesser g) _ _ refl refl
 pub named-number : (n : ℕ) → numberIn (namedReply (namedAt n)) ≡ firstNo (askedOfAlphabet n)
 unfolding firstNo askedOfAlphabet
 named-number n = ap numberIn (named-told n) ∙ asked numberIn (known n) _ _ refl refl
+
+pub later-number : (one other : ℕ) → numberIn (namedReply (laterAt one other)) ≡ firstNo (askedOfTwo one other)
+unfolding firstNo askedOfTwo
+later-number one other = ap numberIn (later-told one other) ∙ asked numberIn (known one && known other) _ _ refl refl
 
 -- ---- packing
 

@@ -13,7 +13,7 @@ use Rattle.alphabet.specs.Questions.{ask_else_then_, refusalReply, numberIn, va
 use Rattle.alphabet.specs.Symbols.{coding}
 use Rattle.alphabet.specs.Names.{displayName, nameOf, numberOf, namedAt}
 use Rattle.alphabet.specs.Guess.{soundGuesser, guesserUpdateAt, guessAt}
-use Rattle.alphabet.specs.Answers.{foldNumber, guessedReply}
+use Rattle.alphabet.specs.Answers.{namedReply, foldNumber, guessedReply}
 use Rattle.alphabet.specs.declared.kind.AlphabetType.{AlphabetType}
 use Rattle.alphabet.specs.declared.kind.Name.{Name}
 use Rattle.alphabet.specs.declared.kind.Named.{Named}
@@ -96,6 +96,14 @@ module _ (n : ℕ) where
   name-refused memory q m e f =
       let s = named-refused n q e in
       (rw (s .0) (ap (λ (x : ℕ). record { refusal = x; count = 0 }) (f ∙ ap (λ (x : Refusal). numberIn (refusalReply x)) (s .1))), rw (s .0))
+
+-- an answer that names an alphabet, or refuses, as numbers
+pub kind-told : (r : Named) (k : AlphabetType) (m : ℕ) → r ≡ Named.Kind k → m ≡ numberOf k → record { refusal = 0; value = m } ≡ number (namedReply r)
+kind-told r k m e q = ap (λ (x : ℕ). record { refusal = 0; value = x }) q ∙ ap (λ (x : Named). number (namedReply x)) (sym e)
+
+pub refusal-told : (r : Named) (q : Refusal) (m : ℕ) → r ≡ Named.Refused q → m ≡ numberIn (refusalReply q) → record { refusal = m; value = 0 } ≡ number (namedReply r)
+refusal-told r q m e f =
+    ap (λ (x : ℕ). record { refusal = x; value = 0 }) f ∙ ap number (sym (is-refused q)) ∙ ap (λ (x : Named). number (namedReply x)) (sym e)
 
 -- ---- the guesser
 

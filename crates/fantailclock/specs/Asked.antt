@@ -43,6 +43,10 @@ askedOfGuesser g = (1 unless soundGuesser g) ∷ []
 unfoldable pub askedOfAlphabet : ℕ → List Asked
 askedOfAlphabet alphabet = (8 unless known alphabet) ∷ []
 
+-- 1 of both numbers, of `later_alphabet`
+unfoldable pub askedOfTwo : ℕ → ℕ → List Asked
+askedOfTwo one other = (8 unless known one && known other) ∷ []
+
 -- 1, 5, 9, 10, of `encode_sequence`
 unfoldable pub askedOfText : ℕ → Bool → List ℕ → ℕ → List Asked
 askedOfText alphabet fold text room =

@@ -1,14 +1,17 @@
-// Widths, members and names of alphabets.
+// Widths, members and names of alphabets, and the later of two.
 use crate::shapes::Count;
 use crate::shapes::Number;
 use crate::shapes::number_of;
 use alphabet::Named;
 use alphabet::contains;
 use alphabet::kind_of_number;
+use alphabet::later_alphabet;
 ghost use mathlib.Core.Path.{_≡_};
 ghost use Prim.Native.Nat.{_≤_};
 ghost use lib.ListN.{length, take};
 ghost use Rattle.bits.specs.Memory.{front};
+ghost use Rattle.alphabet.specs.Genome.{laterAt};
+ghost use Rattle.alphabet.specs.Answers.{namedReply};
 ghost use Rattle.fantailclock.specs.Shapes.{number, count};
 ghost use Rattle.fantailclock.specs.Kinds.{bitsTold, containsTold, nameTold, nameMemory};
 
@@ -57,6 +60,23 @@ pub extern "C" fn fc_contains(alphabet: u64, byte: u64) -> Number
                 value: 0,
             }
         }
+        Named::Refused(refusal) => Number {
+            refusal: number_of(refusal),
+            value: 0,
+        },
+    }
+}
+
+// The number of the later of two alphabets.
+#[no_mangle]
+pub extern "C" fn fc_later_alphabet(one: u64, other: u64) -> Number
+    ensures { λ r. ⌜ r ≡ number (namedReply (laterAt one other)) ⌝ }
+{
+    match later_alphabet(one, other) {
+        Named::Kind(kind) => Number {
+            refusal: 0,
+            value: kind.number(),
+        },
         Named::Refused(refusal) => Number {
             refusal: number_of(refusal),
             value: 0,

@@ -19,6 +19,7 @@ pub use kinds::fc_abi_version;
 pub use kinds::fc_bits_per_symbol;
 pub use kinds::fc_contains;
 pub use kinds::fc_display_name;
+pub use kinds::fc_later_alphabet;
 pub use reads::fc_decode_2bit;
 pub use reads::fc_decode_3bit;
 pub use reads::fc_decode_covered;
