@@ -1,7 +1,7 @@
 -- The worked table. States the starred rows of document 01, "Worked table", for each alphabet a row of codes and its name from "Leaf 1", and then rows for what
 -- the words settle and no starred row shows: each status, each bound, and which question comes first where two are answered by no; for request A1 what
--- comes of folding, for request A5 how non-members are counted, for request A7 which codes the covered read refuses. One list of calls and what comes of them, in
--- numbers and texts that are written out.
+-- comes of folding, for request A5 how non-members are counted, for request A7 which codes the covered read refuses, for request A9 what guesses come to. One list of
+-- calls and what comes of them, in numbers and texts that are written out.
 use Prim.Native.Nat.{ℕ}
 use Prim.Native.String.{String}
 use mathlib.Core.Path.{_≡_}
@@ -16,6 +16,7 @@ use Rattle.alphabet.specs.Questions.{Reply, accepted, refused, refusalReply}
 use Rattle.alphabet.specs.Symbols.{codingBy}
 use Rattle.alphabet.specs.Names.{displayName, numberOf, kindOf, namedAt}
 use Rattle.alphabet.specs.Guess.{guessOf, guesserUpdateAt, guessAt}
+use Rattle.alphabet.specs.Genome.{laterAt, latest}
 use Rattle.alphabet.specs.Answers.{namedReply, guesserUpdatedReply, guessedReply}
 use Rattle.packing.specs.declared.first.First.{First}
 use Rattle.packing.specs.declared.encoder.SequenceEncoder.{SequenceEncoder}
@@ -103,9 +104,12 @@ streamed (StreamStarted.Refused q) source room = tells (refusalReply q)
 abbrev pub stream : AlphabetType → ℕ → ℕ → List ℕ → ℕ → Told
 stream k skip budget source room = streamed (startStreamAt (numberOf k) skip budget) source room
 
--- the guess for a text and the encoding table's entries for its bytes, by a choice; and the display name of a number's kind
+-- the guess for a text, what the guesses for several come to, and the encoding table's entries for a text's bytes, by a choice; and the display name of a number's kind
 abbrev pub guess : Bool → String → Told
 guess fold text = kind (guessOf fold (bytesOf text))
+
+abbrev pub genome : Bool → List String → Told
+genome fold texts = kind (latest (map (λ text. guessOf fold (bytesOf text)) texts))
 
 abbrev pub codes : AlphabetType → Bool → String → Told
 codes k fold text = bytes (map (codingBy fold k .code) (bytesOf text))
@@ -116,6 +120,9 @@ name number = bytes (displayName (kindOf number))
 -- what calls tell by number, of any alphabet number, position and length of the output memory
 abbrev pub names : ℕ → Told
 names number = tells (namedReply (namedAt number))
+
+abbrev pub later : ℕ → ℕ → Told
+later one other = tells (namedReply (laterAt one other))
 
 abbrev pub range : ℕ → ℕ → ℕ → Told
 range start end bits = tells (rangeReply (rangeAt start end bits))
@@ -343,4 +350,24 @@ rows =
     ∷ finalize (encoder Dna2bit 3 6 0 (First.At 1 0x4e) 2 keeping) 1 gives tells (refused 5 (1 ∷ 0x4e ∷ 2 ∷ []))
     ∷ finalize (encoder Dna2bit 3 6 0 (First.At 1 0x4e) 3 keeping) 1 gives no 1
     ∷ update (encoder Dna2bit 3 6 0 (First.At 3 0x4e) 1 keeping) "" 0 gives no 1
+    -- the later of two alphabets, Unknown last, whichever comes first; 8 for either number
+    ∷ later 0 0 gives yes (0 ∷ [])
+    ∷ later 0 4 gives yes (4 ∷ [])
+    ∷ later 3 2 gives yes (3 ∷ [])
+    ∷ later 4 5 gives yes (5 ∷ [])
+    ∷ later 5 4 gives yes (5 ∷ [])
+    ∷ later 6 0 gives no 8
+    ∷ later 0 6 gives no 8
+    -- what the guesses of chromosomes come to, beside the guess of their texts joined; all of one choice to fold
+    ∷ genome keeping [] gives kind Dna2bit
+    ∷ genome keeping ("ACGT" ∷ "ACGU" ∷ []) gives kind Dna3bit
+    ∷ guess keeping "ACGTACGU" gives kind Dna3bit
+    ∷ genome keeping ("ACGX" ∷ "" ∷ "ACGTS" ∷ "ACGU" ∷ []) gives kind Protein
+    ∷ guess keeping "ACGXACGTSACGU" gives kind Protein
+    ∷ genome keeping ("ACGT" ∷ "acgt" ∷ []) gives kind Ascii
+    ∷ genome folding ("ACGT" ∷ "acgt" ∷ []) gives kind Dna2bit
+    -- masks that no text leaves do not combine so: 17 and 18 give 0 and 1, whose later is 1, and ANDed, 16, they give 4 (above)
+    ∷ masked 17 keeping gives yes (0 ∷ [])
+    ∷ masked 18 keeping gives yes (1 ∷ [])
+    ∷ later 0 1 gives yes (1 ∷ [])
     ∷ []

@@ -1,4 +1,6 @@
 // Runs rows of the worked table, and UCSC's published example, on the code itself; what it prints is held to the rules' table.
+use alphabet::AlphabetType;
+use alphabet::Named;
 use alphabet::Refusal;
 use coder::Encoded;
 use coder::EncoderStarted;
@@ -142,10 +144,36 @@ fn print_read(label: &[u8], read: Read, out: &[u8]) {
     }
 }
 
+fn print_kind(kind: AlphabetType) {
+    let name = kind.display_name();
+    print_text(&name.bytes, name.len);
+}
+
 fn guess(label: &[u8], fold: bool, text: &[u8]) {
     print(label);
-    let name = alphabet::guess_alphabet(fold, text).display_name();
-    print_text(&name.bytes, name.len);
+    print_kind(alphabet::guess_alphabet(fold, text));
+}
+
+fn later(label: &[u8], one: u64, other: u64) {
+    print(label);
+    match alphabet::later_alphabet(one, other) {
+        Named::Kind(kind) => print_kind(kind),
+        Named::Refused(refusal) => print_refusal(refusal),
+    }
+}
+
+// Two chromosomes guessed one by one, and the guess of both joined; either number may name no alphabet.
+fn genome() {
+    guess(b"guess ACGU: ", false, b"ACGU");
+    guess(b"guess ACGT: ", false, b"ACGT");
+    later(
+        b"the later: ",
+        alphabet::guess_alphabet(false, b"ACGU").number(),
+        alphabet::guess_alphabet(false, b"ACGT").number(),
+    );
+    guess(b"guess ACGUACGT: ", false, b"ACGUACGT");
+    later(b"later of 4 and 5: ", 4, 5);
+    later(b"later of 0 and 6: ", 0, 6);
 }
 
 // Lowercase letters, as they are and with folding.
@@ -247,4 +275,5 @@ fn main() {
     windows();
     residues();
     stream();
+    genome();
 }
