@@ -10,10 +10,13 @@ pub enum Layer {
     Streaming,
     /// The stream's end call.
     Ending,
+    /// Guesses combined.
+    Genome,
 }
 
 impl Layer {
-    pub const ALL: [Layer; 5] = [Layer::Alphabet, Layer::Packing, Layer::Windows, Layer::Streaming, Layer::Ending];
+    pub const ALL: [Layer; 6] =
+        [Layer::Alphabet, Layer::Packing, Layer::Windows, Layer::Streaming, Layer::Ending, Layer::Genome];
 }
 
 /// What an entry point takes and answers, as names.
@@ -84,6 +87,9 @@ entries! {
     StreamRead: "stream_read" Streaming (STREAM; "source out") -> ("refusal taken written status"; STREAM),
     StreamEnd: "stream_end" Ending (STREAM; "") -> ("refusal outstanding"; ""),
     StreamList: "(list) stream" Streaming ("alphabet skip budget"; "source") -> ("refusal taken written status"; ""),
+
+    LaterAlphabet: "later_alphabet" Genome ("one other"; "") -> ("refusal value"; ""),
+    GenomeList: "(list) genome" Genome ("fold order brackets"; "text") -> ("refusal value"; ""),
 }
 
 impl Shape {
@@ -93,7 +99,8 @@ impl Shape {
     }
 }
 
-/// One call of a list: an update or a read with the next `length` bytes, or, if `last`, the call that may end the list.
+/// One call of a list: an update or a read with the next `length` bytes, or, if `last`, the call that may end the list. Of a
+/// genome it is the guess of a chromosome, that of the next `length` bytes.
 #[derive(Clone, Copy, PartialEq, Debug)]
 pub struct Step {
     pub length: usize,
@@ -273,7 +280,10 @@ impl std::fmt::Display for Call {
         write!(f, "{}({}", shape.name, parts.join(", "))?;
         for step in &self.steps {
             let kind = if step.last { "last call" } else { "call" };
-            write!(f, "; {kind} of {} bytes, out of {}", step.length, step.room)?;
+            match self.entry {
+                Entry::GenomeList => write!(f, "; chromosome of {} bytes", step.length)?,
+                _ => write!(f, "; {kind} of {} bytes, out of {}", step.length, step.room)?,
+            }
         }
         write!(f, ")")
     }

@@ -171,10 +171,12 @@ impl Checker {
     }
 }
 
-/// The column of the table that a case belongs to; a guess belongs to the alphabet it finds.
+/// The column of the table that a case belongs to; a guess belongs to the alphabet it finds, two that are combined to the
+/// later of them, or to none where one of them is none.
 fn column(call: &Call, expected: &[u64]) -> usize {
     let alphabet = match call.entry {
-        Entry::GuessAlphabet | Entry::GuesserList => Some(expected[1]),
+        Entry::GuessAlphabet | Entry::GuesserList | Entry::GenomeList => Some(expected[1]),
+        Entry::LaterAlphabet => Some(if expected[0] == 0 { expected[1] } else { 6 }),
         _ => call.alphabet(),
     };
     alphabet.map_or(7, |number| number.min(6) as usize)

@@ -1,5 +1,6 @@
 //! Planted faults: each turns the port's calls or answers into those of a port that is wrong in one way, to show that
-//! the comparison would notice. A fault changes what goes in (`call`) or what comes out (`answer`).
+//! the comparison would notice. A fault changes what goes in (`call`) or what comes out (`answer`); of a genome it may change
+//! what a host makes of the chromosomes' guesses (`guesses`).
 
 use crate::case::{Call, Entry, Layer, Numbers};
 use crate::model::{self, Intake, DONE, FULL, HUNGRY, LIMIT};
@@ -141,6 +142,33 @@ faults! {
     SkipOfEight Streaming "a skip of 8 is taken",
     BudgetNarrowed Streaming "a budget is narrowed to 32 bits",
     BeyondStream Streaming "a byte is written beyond the count of a stream",
+
+    LaterIsEarlier Genome "the earlier of two alphabets is answered",
+    LaterIsFirst Genome "of two alphabets the first is answered",
+    LaterIsSecond Genome "of two alphabets the second is answered",
+    AlikeIsDna2bit Genome "two alphabets that are alike give Dna2bit",
+    LaterByWidth Genome "the later has more bits per symbol; of Ascii and Unknown it is the first",
+    UnknownBeforeAscii Genome "Unknown is counted before Ascii",
+    ProteinBeforeIupac Genome "Protein is counted before DnaIupac",
+    NumbersAnded Genome "two numbers are combined by AND",
+    NumbersOred Genome "two numbers are combined by OR",
+    OneUnasked Genome "the first number may be that of no alphabet",
+    OtherUnasked Genome "the second number may be that of no alphabet",
+    NeitherRefused Genome "two numbers are refused only where neither is an alphabet",
+    SixTaken Genome "6 is taken for an alphabet",
+    UnknownRefused Genome "Unknown is refused",
+    LaterNarrowed Genome "256 is taken for Dna2bit where two alphabets are combined",
+    LaterSigned Genome "numbers from 2^63 on are taken for negative ones, which come before Dna2bit",
+    NoAlphabetIsOne Genome "a number that is no alphabet is refused by 1",
+    NoAlphabetTold Genome "a refusal 8 tells the number that is no alphabet",
+    GenomeFromAscii Genome "a genome starts from Ascii",
+    GenomeLosesLast Genome "the last chromosome of a genome is left out",
+    GenomeStopsEarly Genome "a genome is done with its first chromosome that is not Dna2bit",
+    GenomeByLongest Genome "the guess of its longest chromosome stands for a genome",
+    EmptyIsAscii Genome "an empty chromosome counts as Ascii",
+    FirstFolded Genome "the first chromosome is folded where the others are not",
+    LastUnfolded Genome "the last chromosome is not folded where the others are",
+    ChromosomeEndLost Genome "the last byte of a chromosome is not looked at",
 }
 
 impl Fault {
@@ -175,6 +203,8 @@ impl Fault {
             (Fault::WindowPastLimit, _) if numbers[3] == LIMIT + 1 && numbers[2] < LIMIT => numbers[3] = LIMIT,
             (Fault::CoverShort, Entry::DecodeCovered) => text.push(0),
             (Fault::BudgetNarrowed, Entry::StreamNew) => numbers[2] &= 0xFFFF_FFFF,
+            (Fault::LaterNarrowed, Entry::LaterAlphabet) => numbers.iter_mut().for_each(|number| *number &= 0xFF),
+            (Fault::ChromosomeEndLost, Entry::GuessAlphabet) => drop(text.pop()),
             (_, Entry::EncoderUpdate | Entry::EncoderFinalize) if self.lenient() => numbers[8] = self.believed(numbers),
             _ => self.folding(&mut wrong),
         }
@@ -257,6 +287,7 @@ impl Fault {
             Layer::Packing => self.packing(call, before, words, out),
             Layer::Windows => self.windows(call, before, words, out),
             Layer::Streaming | Layer::Ending => self.streaming(call, words),
+            Layer::Genome => self.combining(call, words),
         }
     }
 
@@ -525,6 +556,60 @@ impl Fault {
             (Fault::HungryBeforeFull, Entry::StreamRead) if words[3] == FULL && words[1] == len => words[3] = HUNGRY,
             (Fault::EndIgnoresSkip, Entry::StreamEnd) if words[0] == 7 && budget == 0 => words[0] = 0,
             (Fault::SkipOfEight, Entry::StreamNew) if words[0] == 6 && skip == 8 => words[0] = 0,
+            _ => {}
+        }
+    }
+
+    /// What a port that combines two alphabets wrongly in this way answers.
+    fn combining(self, call: &Call, words: &mut [u64]) {
+        let [one, other, ..] = call.numbers;
+        let (first, last) = (one.min(other), one.max(other));
+        let signed = [one, other].map(|number| number as i64);
+        let told = match self {
+            Fault::OneUnasked if other <= 5 => [0, last],
+            Fault::OtherUnasked if one <= 5 => [0, last],
+            Fault::NeitherRefused if first <= 5 => [0, last],
+            Fault::SixTaken if last == 6 => [0, last],
+            Fault::LaterSigned if signed.iter().all(|&number| number <= 5) => [0, signed[0].max(signed[1]) as u64],
+            Fault::NoAlphabetIsOne if last > 5 => [1, 0],
+            Fault::NoAlphabetTold if last > 5 => [8, last],
+            _ if last > 5 => return,
+            Fault::UnknownRefused if last == 5 => [8, 0],
+            Fault::LaterIsEarlier => [0, first],
+            Fault::LaterIsFirst => [0, one],
+            Fault::LaterIsSecond => [0, other],
+            Fault::AlikeIsDna2bit if one == other => [0, 0],
+            Fault::LaterByWidth if model::width(one) == model::width(other) => [0, one],
+            Fault::UnknownBeforeAscii if [first, last] == [4, 5] => [0, 4],
+            Fault::ProteinBeforeIupac if [first, last] == [2, 3] => [0, 2],
+            Fault::NumbersAnded => [0, one & other],
+            Fault::NumbersOred => [0, one | other],
+            _ => return,
+        };
+        words.copy_from_slice(&told);
+    }
+
+    /// What a host that is wrong in this way takes for the guesses of a genome: Dna2bit, then those of its chromosomes.
+    pub fn guesses(self, call: &Call, guesses: &mut Vec<u64>) {
+        let chromosomes: Vec<&[u8]> = call.pieces().collect();
+        let count = chromosomes.len();
+        match self {
+            Fault::GenomeFromAscii => guesses[0] = 4,
+            Fault::GenomeLosesLast => drop(guesses.pop()),
+            Fault::GenomeStopsEarly => {
+                let done = guesses.iter().position(|&guess| guess > 0).unwrap_or(count);
+                guesses.truncate(done + 1);
+            }
+            Fault::GenomeByLongest => {
+                let longest = (0..count).max_by_key(|&place| chromosomes[place].len()).expect("at least one");
+                *guesses = vec![guesses[longest + 1]];
+            }
+            Fault::EmptyIsAscii => {
+                let empty = |place: &usize| chromosomes[*place].is_empty();
+                (0..count).filter(empty).for_each(|place| guesses[place + 1] = 4);
+            }
+            Fault::FirstFolded => guesses[1] = model::guess(true, chromosomes[0]),
+            Fault::LastUnfolded => guesses[count] = model::guess(false, chromosomes[count - 1]),
             _ => {}
         }
     }

@@ -9,6 +9,7 @@ mod case;
 #[path = "sample.rs"]
 mod check;
 mod damaged;
+mod genome;
 mod model;
 mod packing;
 mod random;
@@ -38,6 +39,7 @@ const HEAD: &str = "\
 # Nor does it count non-members: the last number of an encoder's state, and of what packing answers, is the model's.
 # Nor does it refuse a code that no symbol has: a refusal 18 of the covered read, and the base that it tells, are the
 # model's, and so is the third number of what that read answers.
+# Nor does it combine two guesses: it answered by its guess of two texts joined, whose guesses they are.
 ";
 
 fn cases(layer: Layer, check: &mut Checker) -> Go {
@@ -48,6 +50,7 @@ fn cases(layer: Layer, check: &mut Checker) -> Go {
         Layer::Windows => windows::cases(check, random, SCALE),
         Layer::Streaming => streaming::cases(check, random, SCALE),
         Layer::Ending => streaming::ends(check, random, SCALE),
+        Layer::Genome => genome::cases(check, random, SCALE),
     }
 }
 

@@ -6,6 +6,7 @@ mod case;
 mod check;
 mod damaged;
 mod faults;
+mod genome;
 mod model;
 mod packing;
 mod port;
@@ -63,6 +64,7 @@ fn cases(layer: Layer, check: &mut Checker, options: &Options) -> Go {
         Layer::Windows => windows::cases(check, random, scale),
         Layer::Streaming => streaming::cases(check, random, scale),
         Layer::Ending => streaming::ends(check, random, scale),
+        Layer::Genome => genome::cases(check, random, scale),
     }
 }
 

@@ -1,7 +1,7 @@
-//! Document 01's questions and answers, with the choice to fold (A1), the count of non-members (A5) and the covered read's
-//! question about codes that no symbol has (A7) that document 02 adds, written from their sentences and not from the Rust:
-//! slow, small, and whole. It gives every word of every answer, on a refusal too, and the memory afterwards. It is held
-//! against the Rust wherever the Rust has an answer, and decides where the Rust has none.
+//! Document 01's questions and answers, with the choice to fold (A1), the count of non-members (A5), the covered read's
+//! question about codes that no symbol has (A7) and the guess of a genome (A9) that document 02 adds, written from their
+//! sentences and not from the Rust: slow, small, and whole. It gives every word of every answer, on a refusal too, and the
+//! memory afterwards. It is held against the Rust wherever the Rust has an answer, and decides where the Rust has none.
 
 use crate::case::{Call, Entry, Memory, Numbers};
 use crate::tally;
@@ -72,6 +72,16 @@ pub fn lacks(alphabet: u64, code: u64) -> bool {
 pub fn mask(fold: bool, text: &[u8]) -> u64 {
     let holds = |&alphabet: &u64| text.iter().all(|&byte| Intake { alphabet, fold }.code(byte).is_some());
     (0..5).filter(holds).map(|i| 1 << i).sum()
+}
+
+/// The guess of a text: the place in the order of the first alphabet that holds every byte of it.
+pub fn guess(fold: bool, text: &[u8]) -> u64 {
+    u64::from(mask(fold, text).trailing_zeros())
+}
+
+/// The last in the order of alphabets, Unknown behind the others, that is one of those given.
+fn latest(alphabets: &[u64]) -> u64 {
+    (0..=5).rfind(|kind| alphabets.contains(kind)).expect("at least one alphabet")
 }
 
 /// The lowest `count` bits of a number, most significant first.
@@ -195,7 +205,7 @@ fn accepted(call: &Call, memory: &mut Memory) -> Answer {
         Entry::GuesserGuess => guesser_sound(n[0], n[1]).map(|()| vec![0, u64::from(n[0].trailing_zeros())]),
         Entry::GuessAlphabet | Entry::GuesserList => {
             let text = call.pieces().collect::<Vec<_>>().concat();
-            Ok(vec![0, u64::from(mask(chosen(n[0]), &text).trailing_zeros())])
+            Ok(vec![0, guess(chosen(n[0]), &text)])
         }
 
         Entry::EncoderNew => {
@@ -216,6 +226,16 @@ fn accepted(call: &Call, memory: &mut Memory) -> Answer {
         Entry::StreamRead => stream_read(&n, &call.text, memory.lent(0)),
         Entry::StreamEnd => stream_end(&n),
         Entry::StreamList => Ok(tally::stream(call, memory)),
+
+        Entry::LaterAlphabet => {
+            ask(n[0] <= 5 && n[1] <= 5, 8)?;
+            Ok(vec![0, latest(&n[..2])])
+        }
+        // The guesses of the chromosomes; of all of them joined the Rust is asked.
+        Entry::GenomeList => {
+            let guesses: Vec<u64> = call.pieces().map(|chromosome| guess(chosen(n[0]), chromosome)).collect();
+            Ok(vec![0, latest(&guesses)])
+        }
         _ => window(call, memory.lent(0)),
     }
 }

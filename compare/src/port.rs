@@ -10,6 +10,7 @@ pub fn answer(call: &Call, memory: &mut Memory, fault: Option<Fault>) -> Vec<u64
         Layer::Packing => packing::answer(call, memory, fault),
         Layer::Windows => windows::answer(call, memory, fault),
         Layer::Streaming | Layer::Ending => streaming::answer(call, memory, fault),
+        Layer::Genome => genome::answer(call, memory, fault),
     }
 }
 
@@ -34,7 +35,7 @@ mod alphabet {
         }
     }
 
-    fn plain(call: &Call, out: &mut [u8]) -> Vec<u64> {
+    pub fn plain(call: &Call, out: &mut [u8]) -> Vec<u64> {
         let [first, second, ..] = call.numbers;
         let state = Guesser { mask: first, fold: second };
         let (text, len) = (call.text.as_ptr(), call.text.len());
@@ -209,5 +210,64 @@ mod streaming {
             state = answer[4..].to_vec();
         }
         words
+    }
+}
+
+mod genome {
+    use super::{alphabet, faulty, Call, Fault, Memory};
+    use crate::abi::{self, words};
+    use crate::case::Entry;
+
+    pub fn answer(call: &Call, memory: &mut Memory, fault: Option<Fault>) -> Vec<u64> {
+        match call.entry {
+            Entry::GenomeList => list(call, fault),
+            _ => faulty(call, memory.lent(0), fault, plain),
+        }
+    }
+
+    fn plain(call: &Call, _: &mut [u8]) -> Vec<u64> {
+        let [one, other, ..] = call.numbers;
+        // SAFETY: the call is lent nothing.
+        words(unsafe { abi::fc_later_alphabet(one, other) })
+    }
+
+    /// Dna2bit, then the guess of each chromosome on its own: combined, they are the answer.
+    fn list(call: &Call, fault: Option<Fault>) -> Vec<u64> {
+        let mut guesses = vec![0];
+        for chromosome in call.pieces() {
+            let guess = Call::new(Entry::GuessAlphabet, &call.numbers[..1]).text(chromosome);
+            guesses.push(faulty(&guess, &mut [], fault, alphabet::plain)[1]);
+        }
+        if let Some(fault) = fault {
+            fault.guesses(call, &mut guesses);
+        }
+        let [_, order, brackets, ..] = call.numbers;
+        combined(laid_out(guesses, order), brackets, fault)
+    }
+
+    /// The guesses in the order that a number names, by its digits; 0 leaves them as they stand.
+    fn laid_out(mut guesses: Vec<u64>, mut order: u64) -> Vec<u64> {
+        (0..guesses.len()).map(|_| guesses.remove(digit(&mut order, guesses.len()))).collect()
+    }
+
+    /// Two neighbours at a time give one in their place, until one is left. A number names by its digits which two; 0 takes
+    /// them from the front on. A combination that is refused is the answer.
+    fn combined(mut row: Vec<u64>, mut brackets: u64, fault: Option<Fault>) -> Vec<u64> {
+        while row.len() > 1 {
+            let at = digit(&mut brackets, row.len() - 1);
+            let words = faulty(&Call::new(Entry::LaterAlphabet, &row[at..at + 2]), &mut [], fault, plain);
+            if words[0] != 0 {
+                return words;
+            }
+            row.splice(at..at + 2, [words[1]]);
+        }
+        vec![0, row[0]]
+    }
+
+    /// The last digit of a number, where a digit has so many values; the number goes on without it.
+    fn digit(number: &mut u64, values: usize) -> usize {
+        let digit = *number % values as u64;
+        *number /= values as u64;
+        digit as usize
     }
 }

@@ -2,11 +2,12 @@
 //! source bytes, `&mut self` to a state. Only calls in demand 2's domain get one. The Rust does not fold: a call that
 //! folds is put to it with the uppercased text, and the byte that it then reports is exchanged for the one received. Nor
 //! does it count non-members: of a state and of a refusal 5 it tells all but the count. Nor does any read of its refuse a
-//! code that no symbol has; which codes these are, its own table tells (`packed_again`).
+//! code that no symbol has; which codes these are, its own table tells (`packed_again`). Nor does it combine guesses: it is
+//! asked for its guess of the texts joined.
 
 use crate::case::{Call, Entry, Layer, Memory};
 use crate::model;
-use oracle::digest::alphabet::{self, lookup_alphabet, Alphabet, AlphabetGuesser, AlphabetType};
+use oracle::digest::alphabet::{self, lookup_alphabet, Alphabet, AlphabetGuesser, AlphabetType, ALPHABET_ORDER};
 use oracle::digest::encoder::inside::{self, State};
 use oracle::digest::encoder::{self, EncodeError, SequenceEncoder};
 use oracle::digest::streaming_decoder::StreamingDecoder;
@@ -124,6 +125,7 @@ pub fn opinions(call: &Call, before: &Memory, expected: &[u64]) -> Vec<Opinion> 
         Layer::Packing => of_packing(&mut panel),
         Layer::Windows => of_windows(&mut panel),
         Layer::Streaming | Layer::Ending => of_streaming(&mut panel),
+        Layer::Genome => of_genome(&mut panel),
     }
     panel.opinions
 }
@@ -160,7 +162,7 @@ fn of_alphabet(panel: &mut Panel) {
             vec![0, number_of(alphabet::inside::guesser(call.numbers[0] as u8).guess())]
         }),
         Entry::GuessAlphabet => {
-            panel.say("guess_alphabet", |call, _| vec![0, number_of(alphabet::guess_alphabet(&call.text))]);
+            panel.say("guess_alphabet", |call, _| vec![0, guess(&call.text)]);
             panel.say("ALPHABET_MASK", |call, _| vec![0, u64::from(masked(&call.text).trailing_zeros())]);
         }
         Entry::GuesserList => panel.say("AlphabetGuesser", |call, _| {
@@ -170,6 +172,10 @@ fn of_alphabet(panel: &mut Panel) {
         }),
         _ => {}
     }
+}
+
+fn guess(text: &[u8]) -> u64 {
+    number_of(alphabet::guess_alphabet(text))
 }
 
 fn acc(guesser: &AlphabetGuesser) -> u64 {
@@ -475,4 +481,30 @@ fn stream_list(call: &Call, memory: &mut Memory) -> Vec<u64> {
         words.extend([0, (taken.get() - before) as u64, written.unwrap_or(0), status(out_of_source, budget)]);
     }
     words
+}
+
+/// A text of each guess, those of the worked table. None is guessed as Unknown, and about Unknown the Rust is not asked.
+const GUESSED: [&[u8]; 5] = [b"ACGT", b"ACGU", b"ACGTS", b"ACGX", b"acgt"];
+
+/// Of two alphabets the Rust tells the later by its guess of two texts joined, of which they are the guesses, and by the
+/// order of alphabets that it publishes; of a genome by its guess of all chromosomes joined as they stand, in whatever order
+/// their guesses are combined.
+fn of_genome(panel: &mut Panel) {
+    match panel.call.entry {
+        Entry::LaterAlphabet if panel.call.numbers[..2].iter().all(|&number| number < 5) => {
+            panel.say("guess_alphabet of two texts joined", |call, _| {
+                let texts = [call.numbers[0], call.numbers[1]].map(|number| GUESSED[number as usize]);
+                assert_eq!(texts.map(guess), call.numbers[..2], "the texts have other guesses");
+                vec![0, guess(&texts.concat())]
+            });
+            panel.say("ALPHABET_ORDER", |call, _| {
+                let told = |kind: &&AlphabetType| call.numbers[..2].contains(&number_of(**kind));
+                vec![0, number_of(*ALPHABET_ORDER.iter().rev().find(told).expect("five kinds"))]
+            });
+        }
+        Entry::GenomeList => panel.say("guess_alphabet of the chromosomes joined", |call, _| {
+            vec![0, guess(&call.pieces().collect::<Vec<_>>().concat())]
+        }),
+        _ => {}
+    }
 }

@@ -94,7 +94,7 @@ fn group(call: &Call, words: &[u64]) -> [u64; 4] {
     let refusal = if call.entry.shape().answer.starts_with("refusal") { words[0] } else { 0 };
     let alphabet = match call.entry {
         Entry::GuesserUpdate if refusal > 0 => 0,
-        Entry::GuessAlphabet | Entry::GuesserGuess | Entry::GuesserUpdate => words[1],
+        Entry::GuessAlphabet | Entry::GuesserGuess | Entry::GuesserUpdate | Entry::LaterAlphabet => words[1],
         Entry::ByteRange => call.numbers[2].min(9),
         _ => call.alphabet().map_or(0, |number| number.min(6)),
     };
@@ -112,6 +112,11 @@ fn group(call: &Call, words: &[u64]) -> [u64; 4] {
             0 => 0,
             1..=10 => 1,
             _ => 2,
+        },
+        // Which of the two numbers is told, or is no alphabet: the first, the second or both.
+        Entry::LaterAlphabet => match [call.numbers[0], call.numbers[1]] {
+            [one, other] if one == other || one.min(other) > 5 => 2,
+            [one, other] => u64::from(one < other),
         },
         _ if call.entry.shape().layer == Layer::Windows => words[1].min(1), // whether the answer is empty
         _ => 0,

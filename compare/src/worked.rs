@@ -1,6 +1,6 @@
 //! Document 01's worked table, row by row: it holds the model to the document's own figures. Its rows do not fold; those
-//! of document 02's first request, which do, stand behind them, those of its fifth, which count non-members, and those of
-//! its seventh, in which a code is no symbol's.
+//! of document 02's first request, which do, stand behind them, those of its fifth, which count non-members, those of its
+//! seventh, in which a code is no symbol's, and those of its ninth, in which guesses are combined.
 
 use crate::case::{Call, Entry, Step};
 use crate::check::{Checker, Go};
@@ -8,7 +8,7 @@ use crate::model::{DONE, FULL, HUNGRY, LIMIT};
 
 /// All rows.
 pub fn rows(check: &mut Checker) -> Go {
-    let rows = [guesses(), packings(), windows(), streams(), folded(), counted(), lacking()].concat();
+    let rows = [guesses(), packings(), windows(), streams(), folded(), counted(), lacking(), combined()].concat();
     for (call, words, bytes) in rows {
         check.row(&call, &words, &bytes)?;
     }
@@ -186,4 +186,35 @@ fn lacking() -> Vec<Row> {
         covered([3, 0, 1, 1], &[0xFF], 0, [0, 0, 0], b""),
         covered([4, 0, 0, 3], &[0x1D, 0x1E, 0x1F], 3, [0, 3, 0], &[0x1D, 0x1E, 0x1F]),
     ]
+}
+
+/// What the sentences on guesses of chromosomes make of two alphabets and of two texts, told by hand. Of texts the guesses
+/// are combined; the guess of both joined is a row of its own, with the same answer.
+fn combined() -> Vec<Row> {
+    let later = |one: u64, other: u64, words: [u64; 2]| {
+        (Call::new(Entry::LaterAlphabet, &[one, other]), words.to_vec(), vec![])
+    };
+    let chromosome = |text: &[u8]| Step { length: text.len(), room: 0, last: false };
+    let texts = |fold: u64, one: &[u8], other: &[u8], alphabet: u64| {
+        let (whole, steps) = ([one, other].concat(), [one, other].map(chromosome).to_vec());
+        let genome = Call::new(Entry::GenomeList, &[fold, 0, 0]).text(&whole).steps(steps);
+        let joined = Call::new(Entry::GuessAlphabet, &[fold]).text(&whole);
+        [genome, joined].map(|call| (call, vec![0, alphabet], vec![]))
+    };
+    let alphabets = [
+        later(0, 0, [0, 0]),
+        later(0, 4, [0, 4]),
+        later(3, 2, [0, 3]),
+        later(4, 5, [0, 5]),
+        later(5, 5, [0, 5]),
+        later(6, 0, [8, 0]),
+        later(0, 6, [8, 0]),
+    ];
+    let genomes = [
+        texts(0, b"ACGT", b"ACGU", 1),
+        texts(0, b"ACGTS", b"ACGX", 3),
+        texts(0, b"acgt", b"ACGT", 4),
+        texts(1, b"acgt", b"ACGT", 0),
+    ];
+    [alphabets.to_vec(), genomes.concat()].concat()
 }

@@ -9,7 +9,8 @@ Mb/s: millions of bases a second; ns: nanoseconds a call. Ratios are of best tim
 memcpy copies as many bytes as the call writes (a guess: reads). The Rust returns a new Vec, the port writes into
 memory lent to it: alloc is the share of the Rust's best time that allocating and touching such a Vec takes by itself,
 and P/(R-a) the ratio without it. Some rows have the port beside itself too, in the same rounds, on a plain text, and
-P/plain is the ratio to that. In a row `folded ..` the port folds a soft-masked text; plain is the same in uppercase,
+P/plain is the ratio to that. In a row `genome ..` the port guesses chromosomes one by one and combines the guesses, and
+the Rust guesses them joined. In a row `folded ..` the port folds a soft-masked text; plain is the same in uppercase,
 not folded, which the Rust gets as well. In a row `bad ..` port and Rust pack nothing but non-members, in a row
 `stray ..` a text with one non-member in its first piece; plain is a text of members. In a row `damaged ..` the last
 code of each window is no symbol's, and the port's covered read refuses where the Rust shows X; plain is the same

@@ -17,6 +17,7 @@ use fantailclock::fc_guess_alphabet;
 use fantailclock::fc_guesser_guess;
 use fantailclock::fc_guesser_new;
 use fantailclock::fc_guesser_update;
+use fantailclock::fc_later_alphabet;
 
 // The state that two numbers make.
 fn guesser(given: &[u64; 11]) -> Guesser {
@@ -61,6 +62,9 @@ fn place(name: &[u8]) -> u64 {
     if same(name, b"guess_alphabet") {
         return 8;
     }
+    if same(name, b"later_alphabet") {
+        return 9;
+    }
     0
 }
 
@@ -77,6 +81,7 @@ pub fn answer(name: &[u8], given: &[u64; 11], text: &[u8], out: &mut [u8]) -> An
         6 => guessing(fc_guesser_update(guesser(given), text)),
         7 => number(2, fc_guesser_guess(guesser(given))),
         8 => number(1, fc_guess_alphabet(first, text)),
+        9 => number(2, fc_later_alphabet(first, second)),
         _ => unknown(),
     }
 }
