@@ -126,6 +126,12 @@ fc_number fc_guesser_guess(fc_guesser state);
 /* The same for a whole text, folded unless `fold` is 0. Refuses nothing. */
 fc_number fc_guess_alphabet(uint64_t fold, const uint8_t *text, size_t len);
 
+/* The later of two alphabets in the order of numbers, FC_DNA2BIT the first and FC_UNKNOWN the last: for a genome's guess out of its chromosomes' guesses, with
+ * no chromosome read again. The guess for one text followed by another is the later of their two guesses. So start from FC_DNA2BIT, which changes no guess, and
+ * combine each chromosome's; their order and grouping do not matter, nor that one is combined twice. All must have been guessed by the same choice to fold. It
+ * is guesses that are combined, not guessers' states. Refuses by 8, where either number is above 5; `value` is then 0, which is FC_DNA2BIT's number too. */
+fc_number fc_later_alphabet(uint64_t one, uint64_t other);
+
 /* An encoder that has seen nothing; it folds unless `fold` is 0. Refuses by 8. */
 fc_encoder_started fc_encoder_new(uint64_t alphabet, uint64_t fold);
 

@@ -246,6 +246,75 @@ static void hold_folding(void) {
     hold("fc_contains does not fold", fc_contains(FC_DNA2BIT, 'a').value, 0);
 }
 
+/* What the header says of fc_later_alphabet: every two alphabets, by a table written by hand, and numbers that are no alphabet's in either place. */
+static void hold_later(void) {
+    static const uint64_t later[6][6] = {{0, 1, 2, 3, 4, 5}, {1, 1, 2, 3, 4, 5}, {2, 2, 2, 3, 4, 5}, {3, 3, 3, 3, 4, 5}, {4, 4, 4, 4, 4, 5}, {5, 5, 5, 5, 5, 5}};
+    const uint64_t none[] = {6, 7, 8, 255, 256, 260, (uint64_t)1 << 32, ((uint64_t)1 << 32) + 5, (uint64_t)1 << 63, UINT64_MAX - 5, UINT64_MAX};
+    size_t forged = sizeof none / sizeof *none;
+    for (uint64_t one = 0; one <= 6; one++)
+        for (uint64_t other = 0; other <= 6; other++) {
+            int known = one <= FC_UNKNOWN && other <= FC_UNKNOWN;
+            fc_number answer = fc_later_alphabet(one, other);
+            hold("the later, refusal", answer.refusal, known ? FC_ACCEPTED : FC_REFUSED_NO_ALPHABET);
+            hold("the later", answer.value, known ? later[one][other] : 0);
+        }
+    for (size_t i = 0; i < forged; i++) {
+        for (uint64_t alphabet = 0; alphabet <= FC_UNKNOWN; alphabet++) {
+            fc_number first = fc_later_alphabet(none[i], alphabet), second = fc_later_alphabet(alphabet, none[i]);
+            hold("no alphabet before one", first.refusal, FC_REFUSED_NO_ALPHABET);
+            hold("its value", first.value, 0);
+            hold("no alphabet behind one", second.refusal, FC_REFUSED_NO_ALPHABET);
+            hold("its value", second.value, 0);
+        }
+        for (size_t j = 0; j < forged; j++) {
+            fc_number answer = fc_later_alphabet(none[i], none[j]);
+            hold("two that are none", answer.refusal, FC_REFUSED_NO_ALPHABET);
+            hold("their value", answer.value, 0);
+        }
+    }
+}
+
+/* A genome's guess, from its chromosomes' guesses. */
+static uint64_t genome(uint64_t fold, const char *const *chromosomes, const size_t *lengths, size_t count) {
+    uint64_t guess = FC_DNA2BIT;
+    for (size_t i = 0; i < count; i++) guess = fc_later_alphabet(guess, fc_guess_alphabet(fold, of(chromosomes[i]), lengths[i]).value).value;
+    return guess;
+}
+
+/* Texts cut at every two places into chromosomes, in their order and in the opposite one: the genome's guess is the text's, by either choice. */
+static void hold_genomes(void) {
+    static const struct { const char *text; uint64_t guess, folded; } texts[] = {
+        {"", FC_DNA2BIT, FC_DNA2BIT},
+        {"ACGTTGCA", FC_DNA2BIT, FC_DNA2BIT},
+        {"ACgtTGca", FC_ASCII, FC_DNA2BIT},
+        {"ACGTUACGT", FC_DNA3BIT, FC_DNA3BIT},
+        {"acgtnACGT", FC_ASCII, FC_DNA3BIT},
+        {"NACGUS", FC_DNA_IUPAC, FC_DNA_IUPAC},
+        {"TGsACgn", FC_ASCII, FC_DNA_IUPAC},
+        {"ACNSX*-.", FC_PROTEIN, FC_PROTEIN},
+        {"*acgtnsx", FC_ASCII, FC_PROTEIN},
+        {"ACGT\nACGT\n", FC_ASCII, FC_ASCII},
+        {"acNs{*EF", FC_ASCII, FC_ASCII},
+        {"\x80\xFFMK", FC_ASCII, FC_ASCII},
+    };
+    for (size_t i = 0; i < sizeof texts / sizeof *texts; i++)
+        for (uint64_t fold = 0; fold <= 1; fold++) {
+            const char *text = texts[i].text;
+            size_t len = strlen(text);
+            uint64_t right = fold ? texts[i].folded : texts[i].guess;
+            hold("the guess of a text", fc_guess_alphabet(fold, of(text), len).value, right);
+            hold("of a genome of one chromosome", genome(fold, &text, &len, 1), right);
+            for (size_t first = 0; first <= len; first++)
+                for (size_t second = first; second <= len; second++) {
+                    const char *chromosomes[] = {text, text + first, text + second}, *turned[] = {text + second, text + first, text};
+                    const size_t lengths[] = {first, second - first, len - second}, turned_lengths[] = {len - second, second - first, first};
+                    hold("the guess of a genome", genome(fold, chromosomes, lengths, 3), right);
+                    hold("the same in the opposite order", genome(fold, turned, turned_lengths, 3), right);
+                }
+        }
+    hold("the guess of no chromosome", genome(0, NULL, NULL, 0), FC_DNA2BIT);
+}
+
 static void hold_statuses(void) {
     uint8_t out[4], source[1] = {0x9C};
     fc_stream fresh = fc_stream_new(FC_DNA2BIT, 0, 4).next, unsound = {FC_DNA2BIT, 8, 4, 0, 0};
@@ -282,6 +351,8 @@ int main(void) {
     hold_codes();
     hold_bad_count();
     hold_folding();
+    hold_later();
+    hold_genomes();
     hold_statuses();
     hold_lengths();
     printf("%u answers held to the header's constants\n", held);

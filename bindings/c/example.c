@@ -1,6 +1,6 @@
 /*
- * Packs a text, one with lowercase letters too, tells a stray letter from a wrong file by the number of bytes that are no members, fetches a window by byte range
- * and covered read, also out of a file that a disk has damaged, and streams the same window byte by byte.
+ * Packs a text, one with lowercase letters too, tells a stray letter from a wrong file by the number of bytes that are no members, guesses a genome's alphabet
+ * chromosome by chromosome, fetches a window by byte range and covered read, also out of a file that a disk has damaged, and streams the same window byte by byte.
  *
  *     cc -std=c11 -Iinclude bindings/c/example.c target/staticlib/libfantailclock.a -o example && ./example
  *
@@ -8,6 +8,7 @@
  */
 #include <inttypes.h>
 #include <stdio.h>
+#include <string.h>
 
 #include "fantailclock.h"
 
@@ -28,6 +29,19 @@ static size_t pack(uint64_t alphabet, uint64_t fold, const uint8_t *text, size_t
         printf(" %02X", out[i]);
     printf("\n");
     return (size_t)packed.count;
+}
+
+/* The alphabet of a genome: each chromosome is guessed once, all by the same choice to fold, and the guesses are combined. */
+static uint64_t guess_genome(uint64_t fold, const char *const *chromosomes, size_t count) {
+    uint64_t genome = FC_DNA2BIT;
+    printf("guesses%s:", fold ? ", folded" : "");
+    for (size_t i = 0; i < count; i++) {
+        uint64_t guess = fc_guess_alphabet(fold, (const uint8_t *)chromosomes[i], strlen(chromosomes[i])).value;
+        genome = fc_later_alphabet(genome, guess).value;
+        printf(" %s %" PRIu64 ",", chromosomes[i], guess);
+    }
+    printf(" the genome %" PRIu64 "\n", genome);
+    return genome;
 }
 
 /* The bases from `start` to `end` out of the file's bytes that hold them, of which `missing` were not fetched. */
@@ -65,6 +79,8 @@ int main(void) {
     static const uint8_t strange[] = {'A', 'C', 'N', 'T'};
     static const uint8_t protein[] = {'M', 'K', 'A', 'L', 'E', '*'};
     static const uint8_t masked[] = {'A', 'C', 'g', 't', 'n'};
+    static const char *const chromosomes[] = {"ACGT", "acgtn", "GATtaca"};
+    size_t count = sizeof chromosomes / sizeof *chromosomes;
     uint8_t file[16];
     uint64_t alphabet = fc_guess_alphabet(0, text, sizeof text).value;
 
@@ -74,6 +90,10 @@ int main(void) {
     pack(fc_guess_alphabet(0, masked, 4).value, 0, masked, 4, file, sizeof file);
     pack(fc_guess_alphabet(1, masked, 4).value, 1, masked, 4, file, sizeof file);
     pack(FC_DNA2BIT, 1, masked, sizeof masked, file, sizeof file);
+    guess_genome(0, chromosomes, count);
+    uint64_t genome = guess_genome(1, chromosomes, count);
+    for (size_t i = 0; i < count; i++)
+        pack(genome, 1, (const uint8_t *)chromosomes[i], strlen(chromosomes[i]), file, sizeof file);
     if (pack(alphabet, 0, text, sizeof text, file, sizeof file) == 0)
         return 1;
     fetch(alphabet, file, 2, 6, 0);

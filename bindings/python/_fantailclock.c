@@ -211,6 +211,13 @@ static PyObject *guess_alphabet(PyObject *module, arguments given, Py_ssize_t co
     return from_number(answer.value);
 }
 
+static PyObject *later_alphabet(PyObject *module, arguments given, Py_ssize_t count) {
+    uint64_t one, other;
+    if (!counted(count, 2) || !number(given[0], &one) || !number(given[1], &other)) return NULL;
+    fc_number answer = fc_later_alphabet(one, other);
+    return answer.refusal != 0 ? refused(module, answer.refusal) : from_number(answer.value);
+}
+
 static PyObject *guesser_new(PyObject *module, PyObject *fold) {
     uint64_t f;
     (void)module;
@@ -455,6 +462,7 @@ static PyMethodDef methods[] = {
     MANY(contains),
     ONE(display_name, METH_O),
     MANY(guess_alphabet),
+    MANY(later_alphabet),
     ONE(guesser_new, METH_O),
     MANY(guesser_update),
     ONE(guesser_guess, METH_O),

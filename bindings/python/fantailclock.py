@@ -22,6 +22,21 @@ it every byte is taken as it is. The choice is part of a guesser's and an encode
     >>> fc.encode_sequence(fc.Alphabet.Dna2bit, b"ACgt", fold=True).hex()
     '9c'
 
+A genome's alphabet comes out of its chromosomes' guesses, with none of them read again: the guess for one text followed by
+another is the later of their two guesses, provided that all fold alike. `guess_genome` takes the chromosomes one by one, and
+`later_alphabet` combines two guesses, as for chromosomes that come in pieces, with a `Guesser` for each.
+
+    >>> fc.guess_genome([b"ACGT", b"acgtn", b"GATtaca"], fold=True)
+    <Alphabet.Dna3bit: 1>
+    >>> genome = fc.Alphabet.Dna2bit
+    >>> for pieces in [b"AC", b"GT"], [b"ACGT", b"ACGX"]:
+    ...     guesser = fc.Guesser()
+    ...     for piece in pieces:
+    ...         guesser.update(piece)
+    ...     genome = fc.later_alphabet(genome, guesser.guess())
+    >>> genome
+    <Alphabet.Protein: 3>
+
 A text with a byte that is no symbol of the alphabet raises `NotMember`, which has the first such byte and the count of all of
 them; by the count a stray letter is told from a wrong file.
 
@@ -56,6 +71,7 @@ from __future__ import annotations
 import contextlib
 import ctypes
 import enum
+import functools
 import importlib.machinery
 import importlib.util
 import io
@@ -67,7 +83,7 @@ import queue
 import struct
 import sys
 import threading
-from typing import TYPE_CHECKING, Any, NamedTuple, Optional, Protocol, SupportsIndex, Tuple, Union
+from typing import TYPE_CHECKING, Any, Iterable, NamedTuple, Optional, Protocol, SupportsIndex, Tuple, Union
 
 if TYPE_CHECKING:
     from typing_extensions import Buffer
@@ -290,6 +306,7 @@ _FUNCTIONS = {
     "fc_guesser_update": (fc_guessing, [fc_guesser] + _MEMORY),
     "fc_guesser_guess": (fc_number, [fc_guesser]),
     "fc_guess_alphabet": (fc_number, _N + _MEMORY),
+    "fc_later_alphabet": (fc_number, 2 * _N),
     "fc_encoder_new": (fc_encoder_started, 2 * _N),
     "fc_encoder_update": (fc_updated, [fc_encoder] + 2 * _MEMORY),
     "fc_encoder_finalize": (fc_packed, [fc_encoder] + _MEMORY),
@@ -321,17 +338,29 @@ def _of_this_version(path, version):
         raise ImportError(f"{path} has ABI version {version}, not {ABI_VERSION}")
 
 
+def _has_all(path, loaded, names):
+    """ImportError where a function is missing: one that is only added does not raise the version, so that a library of this
+    version may be older than this module."""
+    missing = ", ".join(name for name in names if not hasattr(loaded, name))
+    if missing:
+        raise ImportError(f"{path} lacks {missing}: it is older than this module; make it with bindings/python/build")
+
+
 def _load():
-    """The shared object with every function's types; ImportError where there is none, or one of another version."""
+    """The shared object with every function's types; ImportError where there is none, or one of another version or an older
+    one."""
     path = _path()
     try:
         loaded = ctypes.CDLL(path)
     except OSError as error:
         raise ImportError(f"{error}; make it with bindings/python/build") from error
+    _has_all(path, loaded, ["fc_abi_version"])
+    loaded.fc_abi_version.restype = ctypes.c_uint64
+    _of_this_version(path, loaded.fc_abi_version())
+    _has_all(path, loaded, _FUNCTIONS)
     for name, (answer, arguments) in _FUNCTIONS.items():
         function = getattr(loaded, name)
         function.restype, function.argtypes = answer, arguments
-    _of_this_version(path, loaded.fc_abi_version())
     return loaded
 
 
@@ -355,6 +384,7 @@ def _extension():
     extension = importlib.util.module_from_spec(spec)
     spec.loader.exec_module(extension)
     _of_this_version(path, extension.abi_version())
+    _has_all(path, extension, [name for name in vars(_Ctypes) if not name.startswith("_")])
     extension.refuse_by(_refuse)
     return extension
 
@@ -516,6 +546,10 @@ class _Ctypes:
             return lib.fc_guess_alphabet(fold, *memory).value
 
     @staticmethod
+    def later_alphabet(one, other):
+        return _accepted(lib.fc_later_alphabet(_number(one), _number(other))).value
+
+    @staticmethod
     def guesser_new(fold):
         return bytes(lib.fc_guesser_new(bool(fold)))
 
@@ -658,6 +692,36 @@ def guess_alphabet(text: Buffer, *, fold: bool = False) -> Alphabet:
     """The first of Dna2bit, Dna3bit, DnaIupac, Protein and Ascii that holds every byte of the text; with `fold` a byte a to z
     counts as its uppercase letter in the first four."""
     return _ALPHABETS[_calls.guess_alphabet(fold, text)]
+
+
+def later_alphabet(one: SupportsIndex, other: SupportsIndex) -> Alphabet:
+    """The later of two alphabets in the order of their numbers, Dna2bit the first and Unknown the last. The guess for one text
+    followed by another is the later of their two guesses, provided that all three fold alike. It is proved of the library that
+    this holds, that the combining is associative and commutative, that a guess combined with itself is unchanged, and that
+    Dna2bit is its neutral member. A number above 5 is refused by 8."""
+    return _ALPHABETS[_calls.later_alphabet(one, other)]
+
+
+def _is_text(value):
+    """Whether a value is one text, a str or memory of single bytes, and no list of texts."""
+    if isinstance(value, str):
+        return True
+    try:
+        with memoryview(value) as view:
+            return view.ndim == 1 and view.itemsize == 1
+    except TypeError:
+        return False
+
+
+def guess_genome(chromosomes: Iterable[Buffer], *, fold: bool = False) -> Alphabet:
+    """The guess for a genome out of its chromosomes' guesses: what `guess_alphabet` gives for all of them joined, and Dna2bit for
+    none. Each chromosome is guessed once, by the same choice to fold, and every one is taken, also where the answer is Ascii
+    already. None is copied or kept: a generator may read them one by one. The genome's alphabet packs every chromosome, by the
+    same choice. One text by itself is a TypeError, since its bytes are no chromosomes."""
+    if _is_text(chromosomes):
+        raise TypeError(f"chromosomes are an iterable of texts, not one text, {type(chromosomes).__name__}")
+    guesses = map(functools.partial(_calls.guess_alphabet, bool(fold)), chromosomes)
+    return _ALPHABETS[functools.reduce(_calls.later_alphabet, guesses, int(Alphabet.Dna2bit))]
 
 
 def _kept(state, kind, fold=False):

@@ -216,11 +216,23 @@ class Worked(unittest.TestCase):
         yield guesser.guess().name
         yield fc.guess_alphabet(text(word), **choice).name
 
+    def later(self, *numbers):
+        yield told(lambda: str(int(fc.later_alphabet(*map(number, numbers)))))
+        answer = fc.lib.fc_later_alphabet(*map(number, numbers))
+        self.assertFalse(answer.refusal and answer.value)
+        yield f"refused {answer.refusal}" if answer.refusal else str(answer.value)
+
+    def genome(self, *words, **choice):
+        chromosomes = [text(word) for word in words]
+        yield fc.guess_genome(chromosomes, **choice).name
+        yield fc.guess_genome((each for each in chromosomes), **choice).name
+        yield fc.guess_alphabet(b"".join(chromosomes), **choice).name
+
     def range(self, *numbers):
         yield told(lambda: "{} {}".format(*fc.byte_range_for_bases(*map(number, numbers))))
 
     def answers(self, call, *words, **choice):
-        if call in ("guess", "range"):
+        if call in ("guess", "range", "later", "genome"):
             return list(getattr(self, call)(*words, **choice))
         named = [alphabet for alphabet in Alphabet if words[0] in ("*", alphabet.name)]
         return [answer for alphabet in named for answer in getattr(self, call)(alphabet, *words[1:], **choice)]
@@ -229,7 +241,7 @@ class Worked(unittest.TestCase):
         """The answers of a row's call, by every way to say its choice."""
         if call == "folding":
             return self.answers(*words, fold=True)
-        chosen = self.answers(call, *words, fold=False) if call in ("pack", "update", "finalize", "guess") else []
+        chosen = self.answers(call, *words, fold=False) if call in ("pack", "update", "finalize", "guess", "genome") else []
         return self.answers(call, *words) + chosen
 
     def test_every_row(self):
@@ -239,7 +251,7 @@ class Worked(unittest.TestCase):
             self.assertTrue(answers, line)
             self.assertEqual(answers, [expected] * len(answers), line)
             count, folding = count + 1, folding + (words[0] == "folding")
-        self.assertEqual((count, folding), (73, 18))
+        self.assertEqual((count, folding), (99, 23))
 
     def test_names_numbers_and_bits(self):
         names = ["dna2bit", "dna3bit", "dnaio", "protein", "ASCII", "Unknown"]

@@ -78,6 +78,10 @@ class Names(unittest.TestCase):
     def test_signatures_are_told(self):
         self.assertEqual(list(inspect.signature(fc.decode_covered).parameters), ["alphabet", "data", "byte_offset", "start", "end"])
         self.assertEqual(fc.decode_covered(alphabet=1, data=b"\x05\x39\x77", byte_offset=0, start=2, end=6), b"GTNR")
+        self.assertEqual(list(inspect.signature(fc.guess_genome).parameters), ["chromosomes", "fold"])
+        self.assertEqual(fc.guess_genome(chromosomes=[b"ACGT", b"acgn"], fold=True), Alphabet.Dna3bit)
+        self.assertEqual(list(inspect.signature(fc.later_alphabet).parameters), ["one", "other"])
+        self.assertEqual(fc.later_alphabet(one=Alphabet.Ascii, other=1), Alphabet.Ascii)
 
 
 if __name__ == "__main__":

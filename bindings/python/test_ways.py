@@ -5,6 +5,7 @@ import ctypes
 import gc
 import io
 import os
+import pathlib
 import random
 import shutil
 import subprocess
@@ -12,6 +13,7 @@ import sys
 import tempfile
 import threading
 import unittest
+import unittest.mock
 
 import fantailclock as fc
 from fantailclock import Alphabet
@@ -56,6 +58,7 @@ class Numbers(unittest.TestCase):
             encoder = fc.SequenceEncoder(n(1))
             self.assertEqual(encoder.update(b"ACGTNRYU") + encoder.finalize(), PACKED)
             self.assertTrue(Alphabet.Dna3bit.contains(n(ord("N"))))
+            self.assertEqual(fc.later_alphabet(n(1), n(3)), Alphabet.Protein)
             self.reads(n)
             self.streams(n)
 
@@ -100,6 +103,8 @@ class Numbers(unittest.TestCase):
                     self.assertRaises(error, fc.Stream, *given)
             self.assertRaises(error, fc.encode_sequence, wrong, b"")
             self.assertRaises(error, Alphabet.Dna2bit.contains, wrong)
+            self.assertRaises(error, fc.later_alphabet, wrong, 1)
+            self.assertRaises(error, fc.later_alphabet, 1, wrong)
 
     def test_an_index_that_fails(self):
         class Fails:
@@ -108,6 +113,7 @@ class Numbers(unittest.TestCase):
 
         self.assertRaises(ZeroDivisionError, fc.decode_covered, 1, PACKED, 0, 2, Fails())
         self.assertRaises(ZeroDivisionError, fc.byte_range_for_bases, Fails(), 2, 2)
+        self.assertRaises(ZeroDivisionError, fc.later_alphabet, 6, Fails())
 
 
 class Memory(unittest.TestCase):
@@ -122,6 +128,7 @@ class Memory(unittest.TestCase):
     def test_what_is_no_memory(self):
         for wrong, error in ("ACGT", TypeError), (7, TypeError), (None, TypeError), (memoryview(b"ACGT")[::2], BufferError):
             self.assertRaises(error, fc.guess_alphabet, wrong)
+            self.assertRaises(error, fc.guess_genome, [b"ACGT", wrong])
             self.assertRaises(error, fc.encode_sequence, 0, wrong)
             self.assertRaises(error, fc.decode_covered, 0, wrong, 0, 0, 1)
             self.assertRaises(error, fc.SequenceEncoder(0).update, wrong)
@@ -160,6 +167,7 @@ class Memory(unittest.TestCase):
         source, out = bytearray(b"ACGTACGT"), bytearray(1)
         for call in (
             lambda: fc.guess_alphabet(source),
+            lambda: fc.guess_genome([source, source]),
             lambda: fc.encode_sequence(0, source),
             lambda: fc.encode_sequence(9, source),
             lambda: fc.encode_sequence_into(0, source, out),
@@ -241,6 +249,9 @@ class Kept(unittest.TestCase):
             ("encoder_new", (0, Undecided())),
             ("guess_alphabet", ([], source)),
             ("guess_alphabet", (Undecided(), source)),
+            ("later_alphabet", (3, Index(4))),
+            ("later_alphabet", (3, number)),
+            ("later_alphabet", (Index(-1), number)),
             ("guesser_new", ([],)),
             ("guesser_new", (Undecided(),)),
             ("guesser_update", (fc._calls.guesser_new(True), source)),
@@ -290,7 +301,7 @@ class Alike(unittest.TestCase):
     NUMBERS = [0, 1, 2, 3, 4, 5, 6, 7, 8, 9, 100, 5000, 1 << 20, 1 << 60, (1 << 60) + 1, (1 << 64) - 1, 1 << 64, -1, Index(3), True, 1.5, None]
     TRUTHS = [False, True, 0, 1, 2, -1, 1 << 64, None, "", "no", 0.0, Index(0), Undecided()]
     SHAPES = {
-        "bits_per_symbol": "n", "contains": "nn", "display_name": "n", "guess_alphabet": "bm", "guesser_new": "b",
+        "bits_per_symbol": "n", "contains": "nn", "display_name": "n", "guess_alphabet": "bm", "later_alphabet": "nn", "guesser_new": "b",
         "guesser_update": "gm", "guesser_guess": "g", "encode_sequence": "nbm", "encode_sequence_into": "nbmo",
         "encoder_new": "nb", "encoder_update": "em", "encoder_update_into": "emo", "encoder_finalize": "e",
         "encoder_finalize_into": "eo", "byte_range_for_bases": "nnn", "stream_new": "nnn", "stream_read": "smn",
@@ -334,10 +345,10 @@ class Alike(unittest.TestCase):
             return fc.fc_encoder(small[0] % 2, 8 * small[1] + 8, 0, 0, 1, small[2], chance.choice(b"{{{A"), fold % 2, small[3])
         return fc.fc_encoder(*([small[0], small[1] * 8] + [0] * 5 if small[6] > 2 else small), fold, small[5] // 9)
 
-    def told(self, calls, name, made):
+    def told(self, calls, name, made, **choice):
         given = [make() for make in made]
         try:
-            answer = getattr(calls, name)(*given)
+            answer = getattr(calls, name)(*given, **choice)
         except fc.Refused as refusal:
             answer = str(refusal)
         except (TypeError, ValueError, BufferError, OverflowError, ZeroDivisionError) as error:
@@ -380,6 +391,22 @@ class Alike(unittest.TestCase):
         self.assertEqual(set(kinds), {"accepted", "refused by 3", "refused by 4", "refused by 18"})
         self.assertGreater(min(kinds["accepted"], kinds["refused by 18"]), 300, kinds)
 
+    @unittest.skipUnless(fc.WAY == "extension", "the extension is compared with ctypes where it is at hand")
+    def test_both_ways_guess_a_genome_alike(self):
+        """Chromosomes of every kind, good ones and wrong ones, in a list, in a generator, or one by itself."""
+        chance, kinds = random.Random(7), {}
+        for _ in range(2000):
+            made = [self.argument(chance, "m") for _ in range(chance.randint(0, 4))]
+            fold, wrapped = self.argument(chance, "b")(), chance.choice((list, iter, lambda texts: texts[0] if texts else ""))
+            told = []
+            for calls in fc._calls, fc._Ctypes:
+                with unittest.mock.patch.object(fc, "_calls", calls):
+                    genome = [lambda: wrapped([make() for make in made])]
+                    told.append(self.told(fc, "guess_genome", genome, fold=fold)[0])
+            self.assertEqual(told[0], told[1], ([make() for make in made], fold))
+            kinds[told[0]] = kinds.get(told[0], 0) + 1
+        self.assertTrue({Alphabet.Dna2bit, Alphabet.Ascii, TypeError, BufferError, ZeroDivisionError} <= set(kinds), kinds)
+
     @unittest.skipUnless(fc.WAY == "extension", "the extension's own questions")
     def test_arguments_of_the_extension(self):
         for name, shape in self.SHAPES.items():
@@ -419,6 +446,41 @@ class Found(unittest.TestCase):
                 self.assertEqual(self.imported(elsewhere, FANTAILCLOCK_WAY="ctypes"), "Dna3bit ctypes")
                 found = {"FANTAILCLOCK_SO": "libfantailclock.so", "LD_LIBRARY_PATH": elsewhere}  # by the system, not in this folder
                 self.assertEqual(self.imported(elsewhere, **found), "Dna3bit ctypes")
+
+    def without(self, path, folder, name):
+        """Puts a copy of an object into a folder, from before a function was added: its name is another one there."""
+        before = pathlib.Path(path).read_bytes()
+        after = before.replace(name.encode() + b"\0", b"x" * len(name) + b"\0")
+        self.assertNotEqual(before, after)
+        pathlib.Path(folder, os.path.basename(path)).write_bytes(after)
+
+    def test_an_object_that_is_older_than_a_function(self):
+        """A function that is only added does not raise the version; without it the module is not imported, and says why."""
+        with tempfile.TemporaryDirectory() as elsewhere:
+            shutil.copy(fc.__file__, elsewhere)
+            self.without(fc.lib._name, elsewhere, "fc_later_alphabet")
+            wanted = "^ImportError: .*/libfantailclock.so lacks fc_later_alphabet: it is older than this module; make it with "
+            self.assertRegex(self.imported(elsewhere), wanted)
+            shutil.copy(fc.lib._name, elsewhere)
+            self.assertEqual(self.imported(elsewhere), "Dna3bit ctypes")
+            if fc.WAY == "extension":
+                self.without(fc._calls.__file__, elsewhere, "later_alphabet")
+                self.assertRegex(self.imported(elsewhere), "^ImportError: .*/_fantailclock.* lacks later_alphabet: it is older")
+                self.assertEqual(self.imported(elsewhere, FANTAILCLOCK_WAY="ctypes"), "Dna3bit ctypes")
+
+    def test_an_object_of_another_version(self):
+        """Its version is told, whatever else it lacks; what has none at all is no such object."""
+        this, other = fc.ABI_VERSION, fc.ABI_VERSION - 1
+        for has, version, wanted in (
+            (["fc_abi_version"], other, f"has ABI version {other}, not {this}"),
+            (["fc_abi_version"], this, "lacks fc_bits_per_symbol, fc_contains, .*fc_later_alphabet, .*: it is older"),
+            ([], None, "lacks fc_abi_version: it is older"),
+        ):
+            library = unittest.mock.Mock(spec=has)
+            if has:
+                library.fc_abi_version.return_value = version
+            with unittest.mock.patch.object(fc.ctypes, "CDLL", return_value=library):
+                self.assertRaisesRegex(ImportError, wanted, fc._load)
 
     def test_the_way_that_was_asked_for(self):
         asked = os.environ.get("FANTAILCLOCK_WAY")

@@ -1,4 +1,4 @@
-//! The six alphabets, the choice to fold, and the guess of a text's alphabet.
+//! The six alphabets, the choice to fold, and the guess of a text's alphabet and of a genome's.
 
 use crate::error::accepted;
 use crate::{raw, Error, Result};
@@ -60,6 +60,31 @@ impl Alphabet {
     pub fn contains(self, byte: u8) -> bool {
         // SAFETY: only numbers are passed.
         known(unsafe { raw::fc_contains(self.number(), u64::from(byte)) }) == 1
+    }
+
+    /// The later of two alphabets in the order of their numbers, Dna2bit the first and Unknown the last.
+    ///
+    /// The guess for one text followed by another is the later of their two guesses, provided that all three fold alike:
+    /// so chromosomes are guessed one by one, and their guesses combined, with none of them read again ([`guess_genome`]).
+    /// This is proved of the library, for every two texts and with either choice. So is that the combining is associative
+    /// and commutative, that a guess combined with itself is unchanged, and that Dna2bit is its neutral member: order and
+    /// grouping of the chromosomes do not matter, nor that one is combined twice. It is a law about texts: guesses are
+    /// combined, not the states of [`Guesser`]s.
+    ///
+    /// ```
+    /// use fantailclock::{guess_alphabet, Alphabet, Folding};
+    ///
+    /// let (one, other) = (&b"ACGTU"[..], &b"ACGTS"[..]);
+    /// let [guess, later] = [one, other].map(|text| guess_alphabet(Folding::Off, text));
+    /// assert_eq!([guess, later], [Alphabet::Dna3bit, Alphabet::DnaIupac]);
+    /// assert_eq!(guess.later(later), guess_alphabet(Folding::Off, &[one, other].concat()));
+    /// assert_eq!(guess.later(later), Alphabet::DnaIupac);
+    /// assert_eq!(Alphabet::Dna2bit.later(guess), guess);
+    /// ```
+    pub fn later(self, other: Alphabet) -> Alphabet {
+        // SAFETY: only numbers are passed.
+        let answer = unsafe { raw::fc_later_alphabet(self.number(), other.number()) };
+        Alphabet::try_from(known(answer)).expect("the later is one of the two")
     }
 }
 
@@ -203,4 +228,53 @@ pub fn guess_alphabet(folding: Folding, text: &[u8]) -> Alphabet {
     // SAFETY: the text is lent with its length.
     let answer = unsafe { raw::fc_guess_alphabet(folding.number(), text.as_ptr(), text.len()) };
     Alphabet::try_from(known(answer)).expect("a guess is one of the six")
+}
+
+/// The guess for a genome out of its chromosomes' guesses: what [`guess_alphabet`] gives for all of them joined.
+///
+/// Each chromosome is guessed once, by the same choice to fold, and the guesses are combined by [`Alphabet::later`], from
+/// Dna2bit on, which is the answer for no chromosomes. Every one is taken, also where the answer is Ascii already. None is
+/// copied or kept: each is dropped before the next is asked for, so that the iterator may read them one by one. The
+/// genome's alphabet packs every chromosome, by the same choice.
+///
+/// ```
+/// use fantailclock::{encode_sequence, guess_genome, Alphabet, Folding};
+///
+/// let chromosomes = ["ACGT", "ACGTN", "acgt"];
+/// assert_eq!(guess_genome(Folding::Off, chromosomes), Alphabet::Ascii);
+/// let genome = guess_genome(Folding::On, chromosomes);
+/// assert_eq!(genome, Alphabet::Dna3bit);
+/// for chromosome in chromosomes {
+///     encode_sequence(genome, Folding::On, chromosome.as_bytes())?;
+/// }
+/// # Ok::<(), fantailclock::Error>(())
+/// ```
+///
+/// Who reads chromosomes in pieces has a [`Guesser`] for each, and combines their guesses:
+///
+/// ```
+/// use fantailclock::{Alphabet, Folding, Guesser};
+///
+/// let mut genome = Alphabet::Dna2bit;
+/// for chromosome in ["ACGTACGTU", "ACGTACGTS", "ACGT"] {
+///     let mut guesser = Guesser::new(Folding::Off);
+///     for piece in chromosome.as_bytes().chunks(4) {
+///         guesser.update(piece)?;
+///     }
+///     genome = genome.later(guesser.guess()?);
+/// }
+/// assert_eq!(genome, Alphabet::DnaIupac);
+/// # Ok::<(), fantailclock::Error>(())
+/// ```
+///
+/// A text by itself is no list of chromosomes:
+///
+/// ```compile_fail,E0277
+/// use fantailclock::{guess_genome, Folding};
+///
+/// guess_genome(Folding::Off, b"ACGT");
+/// ```
+pub fn guess_genome(folding: Folding, chromosomes: impl IntoIterator<Item = impl AsRef<[u8]>>) -> Alphabet {
+    let guesses = chromosomes.into_iter().map(|chromosome| guess_alphabet(folding, chromosome.as_ref()));
+    guesses.fold(Alphabet::Dna2bit, Alphabet::later)
 }

@@ -1,6 +1,7 @@
 //! Fantailclock: packed alphabets and their coders, a safe layer over the C ABI of the proved library.
 //!
 //! - [`Alphabet`], [`guess_alphabet`] and [`Guesser`]: the six alphabets and the guess of a text's.
+//! - [`guess_genome`] and [`Alphabet::later`]: a genome's alphabet out of its chromosomes' guesses.
 //! - [`Folding`]: whether who guesses or packs takes lowercase letters for uppercase ones.
 //! - [`encode_sequence`] and [`SequenceEncoder`]: packing, whole or in pieces.
 //! - [`byte_range_for_bases`] and [`decode_covered`]: the bytes to fetch for a window, and its bases.
@@ -43,7 +44,7 @@ pub mod raw;
 mod streaming;
 mod windows;
 
-pub use alphabet::{guess_alphabet, Alphabet, Folding, Guesser};
+pub use alphabet::{guess_alphabet, guess_genome, Alphabet, Folding, Guesser};
 pub use error::{Error, Result};
 pub use packing::{byte_range_for_bases, encode_sequence, encode_sequence_into, FinalizeError, SequenceEncoder};
 pub use streaming::{Status, Stream, Streamed, StreamingDecoder};

@@ -72,6 +72,7 @@ extern "C" {
     pub fn fc_guesser_update(state: Guesser, text: *const u8, len: usize) -> Guessing;
     pub fn fc_guesser_guess(state: Guesser) -> Number;
     pub fn fc_guess_alphabet(fold: u64, text: *const u8, len: usize) -> Number;
+    pub fn fc_later_alphabet(one: u64, other: u64) -> Number;
 
     pub fn fc_encoder_new(alphabet: u64, fold: u64) -> EncoderStarted;
     pub fn fc_encoder_update(state: Encoder, piece: *const u8, len: usize, out: *mut u8, room: usize) -> Updated;

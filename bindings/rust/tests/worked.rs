@@ -100,6 +100,35 @@ fn guess(folding: Folding, words: &[&'static str]) -> Vec<String> {
     vec![format!("{:?}", guess_alphabet(folding, text(words[0]))), format!("{:?}", guesser.guess().unwrap())]
 }
 
+/// By the safe function, where both numbers are alphabets', and by the call itself.
+fn later(words: &[&'static str]) -> Vec<String> {
+    let [one, other] = [words[0], words[1]].map(number);
+    let later = || -> Result<Alphabet> { Ok(Alphabet::try_from(one)?.later(Alphabet::try_from(other)?)) };
+    let answer = unsafe { raw::fc_later_alphabet(one, other) };
+    let told = match answer.refusal {
+        0 => answer.value.to_string(),
+        refusal => format!("refused {refusal}"),
+    };
+    assert!(answer.refusal == 0 || answer.value == 0, "{answer:?}");
+    vec![later().map_or_else(refused, |later| later.number().to_string()), told]
+}
+
+/// By the chromosomes' guesses, whole and in pieces, and by the guess for all of them joined.
+fn genome(folding: Folding, words: &[&'static str]) -> Vec<String> {
+    let chromosomes: Vec<&[u8]> = words.iter().map(|&word| text(word)).collect();
+    let in_pieces = chromosomes.iter().map(|chromosome| {
+        let mut guesser = Guesser::new(folding);
+        chromosome.chunks(1).for_each(|byte| guesser.update(byte).unwrap());
+        guesser.guess().unwrap()
+    });
+    let guesses = [
+        guess_genome(folding, &chromosomes),
+        in_pieces.fold(Alphabet::Dna2bit, Alphabet::later),
+        guess_alphabet(folding, &chromosomes.concat()),
+    ];
+    guesses.map(|guess| format!("{guess:?}")).into()
+}
+
 fn range(words: &[&'static str]) -> Vec<String> {
     let numbers: Vec<u64> = words.iter().map(|word| number(word)).collect();
     let answer = byte_range_for_bases(numbers[0], numbers[1], numbers[2]);
@@ -122,6 +151,8 @@ fn answers(words: &[&'static str]) -> Vec<String> {
         ("update", _) => each(arguments, |alphabet, words| update(alphabet, folding, words)),
         ("finalize", _) => each(arguments, |alphabet, words| finalize(alphabet, folding, words)),
         ("guess", _) => guess(folding, arguments),
+        ("genome", _) => genome(folding, arguments),
+        ("later", Folding::Off) => later(arguments),
         ("read", Folding::Off) => each(arguments, read),
         ("covered", Folding::Off) => each(arguments, covered),
         ("stream", Folding::Off) => each(arguments, stream),
@@ -134,7 +165,7 @@ fn answers(words: &[&'static str]) -> Vec<String> {
 /// Asks every row and compares.
 fn check_table() {
     let rows = rows(WORKED);
-    assert_eq!(rows.len(), 29 + 14 + 13 + 17);
+    assert_eq!(rows.len(), 29 + 14 + 13 + 17 + 26);
     for row in rows {
         let answers = answers(&row.words);
         assert!(!answers.is_empty(), "asked of nothing: {}", row.line);
