@@ -486,9 +486,15 @@ fn stream_list(call: &Call, memory: &mut Memory) -> Vec<u64> {
 /// A text of each guess, those of the worked table. None is guessed as Unknown, and about Unknown the Rust is not asked.
 const GUESSED: [&[u8]; 5] = [b"ACGT", b"ACGU", b"ACGTS", b"ACGX", b"acgt"];
 
+/// Of some alphabets the last in the order that the Rust publishes.
+fn latest(alphabets: &[u64]) -> u64 {
+    let told = |kind: &&AlphabetType| alphabets.contains(&number_of(**kind));
+    number_of(*ALPHABET_ORDER.iter().rev().find(told).expect("one of the five"))
+}
+
 /// Of two alphabets the Rust tells the later by its guess of two texts joined, of which they are the guesses, and by the
 /// order of alphabets that it publishes; of a genome by its guess of all chromosomes joined as they stand, in whatever order
-/// their guesses are combined.
+/// their guesses are combined, and by the latest of its own guesses of the chromosomes.
 fn of_genome(panel: &mut Panel) {
     match panel.call.entry {
         Entry::LaterAlphabet if panel.call.numbers[..2].iter().all(|&number| number < 5) => {
@@ -497,14 +503,16 @@ fn of_genome(panel: &mut Panel) {
                 assert_eq!(texts.map(guess), call.numbers[..2], "the texts have other guesses");
                 vec![0, guess(&texts.concat())]
             });
-            panel.say("ALPHABET_ORDER", |call, _| {
-                let told = |kind: &&AlphabetType| call.numbers[..2].contains(&number_of(**kind));
-                vec![0, number_of(*ALPHABET_ORDER.iter().rev().find(told).expect("five kinds"))]
+            panel.say("ALPHABET_ORDER", |call, _| vec![0, latest(&call.numbers[..2])]);
+        }
+        Entry::GenomeList => {
+            panel.say("guess_alphabet of the chromosomes joined", |call, _| {
+                vec![0, guess(&call.pieces().collect::<Vec<_>>().concat())]
+            });
+            panel.say("guess_alphabet of each chromosome", |call, _| {
+                vec![0, latest(&call.pieces().map(guess).collect::<Vec<_>>())]
             });
         }
-        Entry::GenomeList => panel.say("guess_alphabet of the chromosomes joined", |call, _| {
-            vec![0, guess(&call.pieces().collect::<Vec<_>>().concat())]
-        }),
         _ => {}
     }
 }
