@@ -4,6 +4,7 @@ use mathlib.Core.Bool.{Bool, true, false, cond, _&&_, true≢false}
 use mathlib.Core.List.{List, [], _∷_, _++_}
 use mathlib.Core.Option.{none, some, Option·some-injective, Option·none-ne-some}
 use Prim.Native.Nat.{ℕ, zero, suc, _≤_, _<_, max}
+use native.Mathlib.Nat.{le-of-suc-le-suc, not-suc-le-zero}
 use native.Mathlib.Omega.{arith}
 use borrow.Author.Tests.{le-leb, lt-leb, leb-true, leb-false, eqb-true}
 use lib.Count.{trailingZeros}
@@ -29,7 +30,7 @@ use Rattle.alphabet.specs.declared.guesser.GuesserUpdated.{GuesserUpdate
 use Rattle.alphabet.specs.declared.guesser.Guessed.{Guessed}
 use Rattle.alphabet.proofs.Laws.{folded-append, folded-bytes}
 use Rattle.alphabet.proofs.Turns.{entries-folded}
-use Rattle.alphabet.proofs.Masks.{masked-append, masked-le, masked-sound, zeros-lt, guess-holds, holds-each}
+use Rattle.alphabet.proofs.Masks.{masked-append, masked-le, masked-sound, zeros-lt, guess-holds}
 
 -- ---- refusals
 
@@ -375,7 +376,10 @@ module _ (fold : Bool) (text : List ℕ) (bytes : Bytes text) where
 
 -- each byte of a text that an alphabet holds is a member
 pub held-members : (fold : Bool) (k : AlphabetType) (text : List ℕ) → holdsAll fold k text ≡ true → (j : ℕ) → j < length text → codingBy fold k .member (at text j) ≡ true
-held-members = holds-each
+unfolding holdsAll
+held-members fold k [] e j h = absurd (not-suc-le-zero h)
+held-members fold k (v ∷ text) e zero h = both-true (codingBy fold k .member v) (holdsAll fold k text) e .0
+held-members fold k (v ∷ text) e (suc j) h = held-members fold k text (both-true (codingBy fold k .member v) (holdsAll fold k text) e .1) j (le-of-suc-le-suc h)
 
 -- so every byte of a text is a member of the guessed alphabet, where it is packed by the choice that it was guessed by
 pub guess-members : (fold : Bool) (text : List ℕ) → Bytes text → (j : ℕ) → j < length text → codingBy fold (guessOf fold text) .member (at text j) ≡ true

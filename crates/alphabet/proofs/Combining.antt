@@ -2,7 +2,7 @@
 -- one place of the order on, a text's place is the farthest of its bytes', and the guess is the alphabet there.
 use mathlib.Core.Path.{_≡_, refl, sym, ap, ap₂, subst, _∙_}
 use mathlib.Core.Bool.{Bool, true, false, _&&_}
-use mathlib.Core.List.{List, [], _∷_, _++_, map, foldl, foldr, flatten, Perm, Perm·refl, Perm·foldr-eq}
+use mathlib.Core.List.{List, [], _∷_, _++_, map, foldl, foldr, flatten, Perm, Perm·foldr-eq}
 use Prim.Native.Nat.{ℕ, zero, suc, _-_, _^_, _<_, _≤_, max}
 use native.Mathlib.Nat.{ℕ-set, not-suc-le-zero, le-of-suc-le-suc}
 use native.Mathlib.Decide.{decLt}
@@ -13,15 +13,15 @@ use lib.Count.{trailingZeros}
 use lib.Dec.{eqb, leb, eqb→eq, lit≤, lit<}
 use lib.ListN.{length, getD}
 use Rattle.bits.specs.Tables.{Bytes, bytesOf}
-use Rattle.bits.proofs.Computed.{passes, below, both-true, alike, are-alike}
+use Rattle.bits.proofs.Computed.{passes, below, alike, are-alike}
 use Rattle.alphabet.specs.declared.kind.AlphabetType.{AlphabetType}
 use Rattle.alphabet.specs.declared.kind.AlphabetType.the-variants.{Dna2bit, Dna3bit, DnaIupac, Protein, Ascii, Unknown}
-use Rattle.alphabet.specs.Symbols.{coded, dna2bit, dna3bit, dnaIupac, protein, among, listed, plain, coding, folded, codingBy}
+use Rattle.alphabet.specs.Symbols.{coded, dna2bit, dna3bit, dnaIupac, protein, among, listed, plain, coding, folded}
 use Rattle.alphabet.specs.Names.{numberOf}
 use Rattle.alphabet.specs.Guess.{order, isSet, holders, maskOf, masked, lowest, guessOf, holdsAll}
 use Rattle.alphabet.specs.Genome.{later, latest, Combining}
 use Rattle.alphabet.proofs.Laws.{lawful, members, folded-append}
-use Rattle.alphabet.proofs.Masks.{masked-bit, holds-folded, ascii-holds, guess-empty, guess-holds}
+use Rattle.alphabet.proofs.Masks.{masked-bit, holds-folded, ascii-holds, guess-empty}
 use Rattle.alphabet.proofs.Calls.{known-number, same-kind, later-max}
 
 -- ---- a byte's place in the order
@@ -154,6 +154,12 @@ module _ (fold : Bool) where
   guess-all [] = ap numberOf (guess-empty fold)
   guess-all (text ∷ texts) = guess-append text (flatten texts) ∙ ap (max (numberOf (guessOf fold text))) (guess-all texts)
 
+  -- no guess of a list is farther than all of them together
+  guess-le : (texts : List (List ℕ)) (i : ℕ) → i < length texts → numberOf (guessOf fold (getD texts i [])) ≤ foldr greater 0 (map (guessOf fold) texts)
+  guess-le [] i h = absurd (not-suc-le-zero h)
+  guess-le (text ∷ texts) zero h = omega arith
+  guess-le (text ∷ texts) (suc i) h = omega (arith, guess-le texts i (le-of-suc-le-suc h))
+
   -- ---- what holds a text
 
   unknown-holds : (text : List ℕ) → holdsAll fold Unknown text ≡ holdsAll fold Ascii text
@@ -184,20 +190,6 @@ module _ (fold : Bool) where
   kind-holds text bytes Unknown =
       unknown-holds text ∙ ascii-holds fold text bytes ∙ sym (le-leb (numberOf (guessOf fold text)) 5 (number-le (guessOf fold text)))
 
-  holds-append : (k : AlphabetType) (a b : List ℕ) → holdsAll fold k (a ++ b) ≡ true → (holdsAll fold k a ≡ true) × (holdsAll fold k b ≡ true)
-  unfolding holdsAll
-  holds-append k [] b e = (refl, e)
-  holds-append k (v ∷ a) b e =
-      let p = both-true (codingBy fold k .member v) (holdsAll fold k (a ++ b)) e in
-      let q = holds-append k a b (p .1) in
-      (ap₂ (λ (x y : Bool). x && y) (p .0) (q .0), q .1)
-
-  holds-part : (k : AlphabetType) (texts : List (List ℕ)) → holdsAll fold k (flatten texts) ≡ true → (i : ℕ) → i < length texts → holdsAll fold k (getD texts i []) ≡ true
-  unfolding flatten
-  holds-part k [] e i h = absurd (not-suc-le-zero h)
-  holds-part k (text ∷ texts) e zero h = holds-append k text (flatten texts) e .0
-  holds-part k (text ∷ texts) e (suc i) h = holds-part k texts (holds-append k text (flatten texts) e .1) i (le-of-suc-le-suc h)
-
 -- ---- the claim
 
 whole : (fold : Bool) (texts : List (List ℕ)) (guesses : List AlphabetType) → Perm (map (guessOf fold) texts) guesses → guessOf fold (flatten texts) ≡ latest guesses
@@ -205,12 +197,12 @@ whole fold texts guesses p =
     same-kind (guessOf fold (flatten texts)) (latest guesses)
     (guess-all fold texts ∙ Perm·foldr-eq ℕ-set greater (λ j k n. omega arith) p 0 ∙ sym (latest-max guesses))
 
-each-held : (fold : Bool) (texts : List (List ℕ)) → Bytes (flatten texts) → (i : ℕ) → i < length texts
+each-held : (fold : Bool) (texts : List (List ℕ)) (i : ℕ) → i < length texts → Bytes (getD texts i [])
     → holdsAll fold (latest (map (guessOf fold) texts)) (getD texts i []) ≡ true
-each-held fold texts bytes =
-    let same : guessOf fold (flatten texts) ≡ latest (map (guessOf fold) texts) = whole fold texts (map (guessOf fold) texts) (Perm·refl _) in
-    holds-part fold (latest (map (guessOf fold) texts)) texts
-    (ap (λ (k : AlphabetType). holdsAll fold k (flatten texts)) (sym same) ∙ guess-holds fold (flatten texts) bytes)
+each-held fold texts i h bytes =
+    let k : AlphabetType = latest (map (guessOf fold) texts) in
+    kind-holds fold (getD texts i []) bytes k
+    ∙ le-leb (numberOf (guessOf fold (getD texts i []))) (numberOf k) (omega (arith, guess-le fold texts i h, latest-max (map (guessOf fold) texts)))
 
 pub combining : (fold : Bool) → Combining fold
 combining fold =

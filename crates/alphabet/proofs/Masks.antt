@@ -10,8 +10,8 @@ use lib.Bits.{bitAnd, and-shr, and-mod, and-le-l}
 use lib.Count.{trailingZeros}
 use lib.Dec.{eqb, eqb→eq, lit<, lit≤}
 use lib.ListN.{length, getD}
-use Rattle.bits.specs.Tables.{at, Bytes}
-use Rattle.bits.proofs.Computed.{below, both-true, and-true}
+use Rattle.bits.specs.Tables.{Bytes}
+use Rattle.bits.proofs.Computed.{below, and-true}
 use Rattle.alphabet.specs.declared.kind.AlphabetType.{AlphabetType}
 use Rattle.alphabet.specs.declared.kind.AlphabetType.the-variants.{Dna2bit, Dna3bit, DnaIupac, Protein, Ascii, Unknown}
 use Rattle.alphabet.specs.Symbols.{coding, canon, folded, codingBy}
@@ -205,10 +205,3 @@ first-holds fold (k ∷ ks) text i e h = go (holdsAll fold k text) refl i e h (�
 -- so the guessed alphabet holds the text
 pub guess-holds : (fold : Bool) (text : List ℕ) → Bytes text → holdsAll fold (guessOf fold text) text ≡ true
 guess-holds fold text bytes = rw (guess-first fold text bytes) (first-holds fold order text 4 (ascii-holds fold text bytes) (lit< tt))
-
--- and has each of its bytes
-pub holds-each : (fold : Bool) (k : AlphabetType) (text : List ℕ) → holdsAll fold k text ≡ true → (j : ℕ) → j < length text → codingBy fold k .member (at text j) ≡ true
-unfolding holdsAll
-holds-each fold k [] e j h = absurd (not-suc-le-zero h)
-holds-each fold k (v ∷ text) e zero h = both-true (codingBy fold k .member v) (holdsAll fold k text) e .0
-holds-each fold k (v ∷ text) e (suc j) h = holds-each fold k text (both-true (codingBy fold k .member v) (holdsAll fold k text) e .1) j (le-of-suc-le-suc h)

@@ -48,4 +48,4 @@ pub record Combining (fold : Bool) : Type 0 where
   -- an alphabet holds a text exactly when it is the text's guess, or later
   pub holding : (text : List ℕ) → Bytes text → (k : AlphabetType) → holdsAll fold k text ≡ leb (numberOf (guessOf fold text)) (numberOf k)
   -- so what the guesses come to holds each of the texts
-  pub each : (texts : List (List ℕ)) → Bytes (flatten texts) → (i : ℕ) → i < length texts → holdsAll fold (latest (map (guessOf fold) texts)) (getD texts i []) ≡ true
+  pub each : (texts : List (List ℕ)) (i : ℕ) → i < length texts → Bytes (getD texts i []) → holdsAll fold (latest (map (guessOf fold) texts)) (getD texts i []) ≡ true

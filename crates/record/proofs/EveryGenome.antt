@@ -3,8 +3,9 @@
 use mathlib.Core.Path.{_≡_, refl, sym, ap, ap₂, subst}
 use mathlib.Core.Bool.{Bool}
 use mathlib.Core.List.{List, [], _∷_}
-use Prim.Native.Nat.{ℕ, _*_, _≤_}
+use Prim.Native.Nat.{ℕ, _*_, _<_, _≤_}
 use lib.ListN.{length, getD}
+use Rattle.bits.specs.Tables.{Bytes}
 use Rattle.bits.specs.Packing.{bytesFor}
 use Rattle.alphabet.specs.Questions.{limit}
 use Rattle.alphabet.specs.Names.{numberOf, numbered}
@@ -47,16 +48,18 @@ pub every-genome : (fold : Bool) (texts : List (List ℕ)) → (g : Genome) × (
 every-genome fold texts = (record { fold = fold; chromosomes = made fold 0 texts; follows = made-follows fold 0 texts }, (refl, made-texts fold 0 texts))
 
 -- a call that packs chromosome i, whatever memory is long enough
-pub every-packing : (g : Genome) (i : ℕ) (memory : List ℕ) → length (getD (textsIn g) i []) ≤ limit
+pub every-packing : (g : Genome) (i : ℕ) (memory : List ℕ) → i < length (textsIn g) → Bytes (getD (textsIn g) i []) → length (getD (textsIn g) i []) ≤ limit
     → bytesFor (length (getD (textsIn g) i []) * numbered (answerIn g) .width) ≤ length memory → (e : EncodeCall) × (PacksOne g i e × (before e ≡ memory))
-every-packing g i memory bounded room =
+every-packing g i memory there bytes bounded room =
     let (e, (alphabet, (choice, (text, lent)))) = every-encode (answerIn g) (g .fold) (getD (textsIn g) i []) memory in (
       e,
       (
         record {
+          there = there;
           by-alphabet = alphabet;
           by-choice = choice;
           text = text;
+          bytes = subst Bytes (sym text) bytes;
           bounded = subst (λ (t : List ℕ). length t ≤ limit) (sym text) bounded;
           room = subst (λ (n : ℕ). n ≤ length (before e)) (sym (ap₂ (λ (t : List ℕ) (n : ℕ). bytesFor (length t * numbered n .width)) text alphabet))
               (subst (λ (m : List ℕ). bytesFor (length (getD (textsIn g) i []) * numbered (answerIn g) .width) ≤ length m) (sym lent) room);

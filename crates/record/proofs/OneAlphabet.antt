@@ -65,14 +65,14 @@ same-guess fold texts others p =
     combining fold .genome texts (map (guessOf fold) others) (Perm·map (guessOf fold) p) ∙ sym (combining fold .genome others (map (guessOf fold) others) (Perm·refl _))
 
 -- the answer's alphabet holds each text
-members : (g : Genome) → Bytes (flatten (textsIn g)) → (i : ℕ) → i < length (textsIn g) → Members (numberedBy (g .fold) (answerIn g)) (getD (textsIn g) i [])
-members g bytes i h =
+members : (g : Genome) (i : ℕ) → i < length (textsIn g) → Bytes (getD (textsIn g) i []) → Members (numberedBy (g .fold) (answerIn g)) (getD (textsIn g) i [])
+members g i h bytes =
     let fold : Bool = g .fold in
     let k : AlphabetType = latest (map (guessOf fold) (textsIn g)) in
     let is : kindOf (answerIn g) ≡ k =
     ap kindOf (answer-is g) ∙ kind-number (guessOf fold (flatten (textsIn g))) ∙ combining fold .genome (textsIn g) _ (Perm·refl _) in
     subst (λ (j : AlphabetType). Members (codingBy fold j) (getD (textsIn g) i [])) (sym is)
-    (held-members fold k (getD (textsIn g) i []) (combining fold .each (textsIn g) bytes i h))
+    (held-members fold k (getD (textsIn g) i []) (combining fold .each (textsIn g) i h bytes))
 
 pub one-alphabet : OneAlphabet
 one-alphabet = record { guessed = guessed; packs = packs }
@@ -82,13 +82,14 @@ one-alphabet = record { guessed = guessed; packs = packs }
     guessed g texts p c choice text =
         answer-is g ∙ ap numberOf (same-guess (g .fold) (textsIn g) texts p ∙ ap₂ guessOf (sym choice) (sym text) ∙ sym (guess-is c))
 
-    packs : (g : Genome) → Bytes (flatten (textsIn g)) → (i : ℕ) → i < length (textsIn g) → (e : EncodeCall) → PacksOne g i e → e .result ≡ Encoded.Wrote (sizeFor e)
-    packs g bytes i h e one =
+    packs : (g : Genome) (i : ℕ) (e : EncodeCall) → PacksOne g i e → e .result ≡ Encoded.Wrote (sizeFor e)
+    packs g i e one =
+        let bytes : Bytes (getD (textsIn g) i []) = subst Bytes (one .text) (one .bytes) in
         let A : Coding = numberedBy (foldFor e) (alphabetFor e) in
         let held : Members A (textFor e) =
         subst (λ (t : List ℕ). Members A t) (sym (one .text))
         (subst (λ (n : ℕ). Members (numberedBy (foldFor e) n) (getD (textsIn g) i [])) (sym (one .by-alphabet))
-        (subst (λ (f : Bool). Members (numberedBy f (answerIn g)) (getD (textsIn g) i [])) (sym (one .by-choice)) (members g bytes i h))) in
+        (subst (λ (f : Bool). Members (numberedBy f (answerIn g)) (getD (textsIn g) i [])) (sym (one .by-choice)) (members g i (one .there) bytes))) in
         let packed : List ℕ = packing A (textFor e) in
         let long : length packed ≡ sizeFor e = length-packing A (textFor e) in
         e .met .0

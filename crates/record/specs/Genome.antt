@@ -72,12 +72,16 @@ answerIn g = lastTold 0 (g .chromosomes)
 abbrev pub sizeFor : EncodeCall → ℕ
 sizeFor e = bytesFor (length (textFor e) * numbered (alphabetFor e) .width)
 
--- `encode_sequence` of a chromosome by the genome's alphabet and its choice, given enough output memory
+-- `encode_sequence` of a chromosome by the genome's alphabet and its choice
 pub record PacksOne (g : Genome) (i : ℕ) (e : EncodeCall) : Type 0 where
+  pub there : i < length (textsIn g)
   pub by-alphabet : alphabetFor e ≡ answerIn g
   pub by-choice : foldFor e ≡ g .fold
   pub text : textFor e ≡ getD (textsIn g) i []
+  -- of bytes, as all lent memory is
+  pub bytes : Bytes (textFor e)
   pub bounded : length (textFor e) ≤ limit
+  -- given enough output memory
   pub room : sizeFor e ≤ length (before e)
 
 -- ---- the claim
@@ -93,10 +97,6 @@ pub record OneAlphabet : Type 0 where
       answerIn g ≡ numberOf (c .result)
   -- and its alphabet packs each of them: none is refused
   pub packs :
-      (g : Genome) →
-      Bytes (flatten (textsIn g)) →
-      (i : ℕ) →
-      i < length (textsIn g) →
-      (e : EncodeCall) →
+      (g : Genome) (i : ℕ) (e : EncodeCall) →
       PacksOne g i e →
       e .result ≡ Encoded.Wrote (sizeFor e)
