@@ -251,7 +251,7 @@ class Worked(unittest.TestCase):
             self.assertTrue(answers, line)
             self.assertEqual(answers, [expected] * len(answers), line)
             count, folding = count + 1, folding + (words[0] == "folding")
-        self.assertEqual((count, folding), (99, 23))
+        self.assertEqual((count, folding), (127, 23))
 
     def test_names_numbers_and_bits(self):
         names = ["dna2bit", "dna3bit", "dnaio", "protein", "ASCII", "Unknown"]
