@@ -26,6 +26,7 @@ use Rattle.packing.specs.Answers.{encodedReply, finalizedReply, rangeReply}
 use Rattle.fantailclock.specs.declared.encoders.State.{State}
 use Rattle.fantailclock.specs.declared.shapes.Encoder.{Encoder}
 use Rattle.fantailclock.specs.declared.shapes.Packed.{Packed}
+use Rattle.fantailclock.specs.declared.shapes.Updated.{Updated}
 use Rattle.fantailclock.specs.Shapes.{range, packed, chosen}
 use Rattle.fantailclock.specs.Encoders.{inside, fitting, outsideWith, outside, echoed, startedBy, encoderStarted, stateOf, updatedBy, updatedFrom, encoderUpdated}
 use Rattle.fantailclock.specs.Encoders.{updateMemoryFrom, encoderUpdateMemory, finalizeFrom, finalizeTold, finalizeMemoryFrom, encoderFinalizeMemory}
@@ -192,31 +193,36 @@ pub echo-refused : (n fold : ℕ) → known n ≡ false → stateOf (echoed n fo
 unfolding stateOf
 echo-refused n fold h = rw h
 
-module _ (e : Encoder) (piece memory : List ℕ) where
-  pub update-no : (m : ℕ) → State.Refused m ≡ stateOf e
-      → (record { refusal = m; count = 0; next = e } ≡ encoderUpdated e piece (length memory)) × (memory ≡ encoderUpdateMemory e piece memory)
-  unfolding encoderUpdated encoderUpdateMemory
-  update-no m q = (ap (updatedFrom e piece (length memory)) q, ap (updateMemoryFrom piece memory) q)
+-- an answer to a piece, as numbers
+module _ (e : Encoder) (x : Answer) where
+  pub told-wrote : (count : ℕ) (s : SequenceEncoder) → x ≡ Answer.Wrote count s → (n : Encoder) → n ≡ outside s
+      → record { refusal = 0; count = count; next = n } ≡ updatedBy e x
+  told-wrote count s p n h = ap (λ (y : Encoder). record { refusal = 0; count = count; next = y }) h ∙ ap (updatedBy e) (sym p)
 
-  pub update-wrote : (s : SequenceEncoder) → State.Fits s ≡ stateOf e → (x : Answer) (count : ℕ) (s′ : SequenceEncoder) → x ≡ Answer.Wrote count s′
-      → x ≡ updateAt s piece (length memory)
-      → (n : Encoder) → n ≡ outside s′ → (out : List ℕ) → out ≡ updateMemory s piece memory
-      → (record { refusal = 0; count = count; next = n } ≡ encoderUpdated e piece (length memory)) × (out ≡ encoderUpdateMemory e piece memory)
-  unfolding encoderUpdated encoderUpdateMemory
-  update-wrote s q x count s′ p f n h out w = (
-    ap (λ (y : Encoder). record { refusal = 0; count = count; next = y }) h ∙ ap (updatedBy e) (sym p ∙ f) ∙ ap (updatedFrom e piece (length memory)) q,
-    w ∙ ap (updateMemoryFrom piece memory) q,
-  )
+  pub told-refused : (q : Refusal) (s : SequenceEncoder) → x ≡ Answer.Refused q s → (m : ℕ) → m ≡ numberIn (refusalReply q)
+      → record { refusal = m; count = 0; next = e } ≡ updatedBy e x
+  told-refused q s p m h = ap (λ (y : ℕ). record { refusal = y; count = 0; next = e }) h ∙ ap (updatedBy e) (sym p)
 
-  pub update-refused : (s : SequenceEncoder) → State.Fits s ≡ stateOf e → (x : Answer) (r : Refusal) (s′ : SequenceEncoder) → x ≡ Answer.Refused r s′
-      → x ≡ updateAt s piece (length memory)
-      → (m : ℕ) → m ≡ numberIn (refusalReply r) → (out : List ℕ) → out ≡ updateMemory s piece memory
-      → (record { refusal = m; count = 0; next = e } ≡ encoderUpdated e piece (length memory)) × (out ≡ encoderUpdateMemory e piece memory)
-  unfolding encoderUpdated encoderUpdateMemory
-  update-refused s q x r s′ p f m h out w = (
-    ap (λ (y : ℕ). record { refusal = y; count = 0; next = e }) h ∙ ap (updatedBy e) (sym p ∙ f) ∙ ap (updatedFrom e piece (length memory)) q,
-    w ∙ ap (updateMemoryFrom piece memory) q,
-  )
+module _ (e : Encoder) (piece : List ℕ) where
+  -- asked about with any length of memory, or packed
+  module _ (room : ℕ) where
+    pub piece-no : (m : ℕ) → State.Refused m ≡ stateOf e → record { refusal = m; count = 0; next = e } ≡ encoderUpdated e piece room
+    unfolding encoderUpdated
+    piece-no m q = ap (updatedFrom e piece room) q
+
+    pub piece-told : (s : SequenceEncoder) → State.Fits s ≡ stateOf e → (x : Answer) → x ≡ updateAt s piece room → (r : Updated) → r ≡ updatedBy e x
+        → r ≡ encoderUpdated e piece room
+    unfolding encoderUpdated
+    piece-told s q x f r h = h ∙ ap (updatedBy e) f ∙ ap (updatedFrom e piece room) q
+
+  module _ (memory : List ℕ) where
+    pub memory-no : (m : ℕ) → State.Refused m ≡ stateOf e → memory ≡ encoderUpdateMemory e piece memory
+    unfolding encoderUpdateMemory
+    memory-no m q = ap (updateMemoryFrom piece memory) q
+
+    pub memory-told : (s : SequenceEncoder) → State.Fits s ≡ stateOf e → (out : List ℕ) → out ≡ updateMemory s piece memory → out ≡ encoderUpdateMemory e piece memory
+    unfolding encoderUpdateMemory
+    memory-told s q out w = w ∙ ap (updateMemoryFrom piece memory) q
 
 module _ (e : Encoder) (memory : List ℕ) where
   pub finalize-no : (m : ℕ) (r : Packed) → State.Refused m ≡ stateOf e → r ≡ packed (refused m [])

@@ -28,7 +28,7 @@ ghost use Rattle.packing.specs.Encode.{encodeAt, encodeMemory};
 ghost use Rattle.packing.specs.Range.{rangeAt};
 ghost use Rattle.packing.specs.Answers.{encodedReply, rangeReply};
 ghost use Rattle.fantailclock.specs.Shapes.{range, packed, chosen};
-ghost use Rattle.fantailclock.specs.Encoders.{inside, fitting, outside, stateOf, encoderStarted, encoderUpdated, encoderUpdateMemory, finalizeTold, encoderFinalizeMemory};
+ghost use Rattle.fantailclock.specs.Encoders.{inside, fitting, outside, stateOf, encoderStarted, updatedBy, encoderUpdated, encoderUpdateMemory, finalizeTold, encoderFinalizeMemory};
 
 // A refusal as numbers, with its details.
 fn refused_by(refusal: Refusal) -> Packed
@@ -217,6 +217,40 @@ pub extern "C" fn fc_encoder_new(alphabet: u64, fold: u64) -> EncoderStarted
     }
 }
 
+// What an encoder's answer to a piece tells the host that handed in these numbers; on a refusal it gets them back.
+fn updated_of(state: Encoder, answer: packing::Updated) -> Updated
+    ensures { λ r. ⌜ r ≡ updatedBy state answer ⌝ }
+{
+    match answer {
+        packing::Updated::Wrote(count, next) => Updated {
+            refusal: 0,
+            count: count as u64,
+            next: encoder_of(next),
+        },
+        packing::Updated::Refused(refusal, _) => Updated {
+            refusal: number_of(refusal),
+            count: 0,
+            next: state,
+        },
+    }
+}
+
+// What `fc_encoder_update` would answer with memory of `room` bytes; none is lent.
+#[no_mangle]
+pub extern "C" fn fc_encoder_ask(state: Encoder, piece: &[u8], room: u64) -> Updated
+    ensures { λ r. ⌜ r ≡ encoderUpdated state (now (piece .entry)) room ⌝ }
+{
+    let stands = state_of(state);
+    match stands {
+        State::Refused(number) => Updated {
+            refusal: number,
+            count: 0,
+            next: state,
+        },
+        State::Fits(encoder) => updated_of(state, encoder.ask(piece, room as usize)),
+    }
+}
+
 // A piece packed behind what pends.
 #[no_mangle]
 pub extern "C" fn fc_encoder_update(state: Encoder, piece: &[u8], out: &mut [u8]) -> Updated
@@ -230,18 +264,7 @@ pub extern "C" fn fc_encoder_update(state: Encoder, piece: &[u8], out: &mut [u8]
             count: 0,
             next: state,
         },
-        State::Fits(encoder) => match encoder.update(piece, out) {
-            packing::Updated::Wrote(count, next) => Updated {
-                refusal: 0,
-                count: count as u64,
-                next: encoder_of(next),
-            },
-            packing::Updated::Refused(refusal, _) => Updated {
-                refusal: number_of(refusal),
-                count: 0,
-                next: state,
-            },
-        },
+        State::Fits(encoder) => updated_of(state, encoder.update(piece, out)),
     }
 }
 

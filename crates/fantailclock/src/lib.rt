@@ -8,6 +8,7 @@ mod streams;
 
 pub use encoders::fc_byte_range_for_bases;
 pub use encoders::fc_encode_sequence;
+pub use encoders::fc_encoder_ask;
 pub use encoders::fc_encoder_finalize;
 pub use encoders::fc_encoder_new;
 pub use encoders::fc_encoder_update;

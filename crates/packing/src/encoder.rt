@@ -147,7 +147,8 @@ impl SequenceEncoder {
         }
     }
 
-    // The answer to a piece and memory of `room` bytes: the questions in their order, and nothing written. The table is the state's.
+    // The answer to a piece and memory of `room` bytes: the questions in their order, and nothing written. The table is the state's. `ask` and `update` have no other
+    // place that asks, or that makes the next state.
     fn asked(self, table: &[u8; 256], piece: &[u8], room: usize) -> Updated
         requires { ⌜ now table ≡ tabulate 256 (entryOf (packsBy self)) ⌝ }
         ensures { λ r. ⌜ r ≡ updateAt self (now (piece .entry)) room ⌝ }
@@ -165,6 +166,17 @@ impl SequenceEncoder {
             return Updated::Refused(Refusal::ShortMemory, self);
         }
         Updated::Wrote(count, self.next(table, piece))
+    }
+
+    // What `update` would answer to a piece and memory of `room` bytes, next state and refusals included. No memory is lent, so `room` may be any number.
+    pub fn ask(self, piece: &[u8], room: usize) -> Updated
+        ensures { λ r. ⌜ r ≡ updateAt self (now (piece .entry)) room ⌝ }
+    {
+        let kind = self.alphabet;
+        let mut table = [INVALID_CODE; 256];
+        lay_codes(kind, &mut table);
+        fold_entries(has_effect(self.fold, kind), &mut table);
+        self.asked(&table, piece, room)
     }
 
     // Packs a piece behind what pends, and writes the bytes that it completes at the front of `out`.

@@ -24,7 +24,7 @@ use Rattle.record.proofs.Whole.{accepted-nil}
 abbrev pub at-some : List ℕ → RefT (List ℕ)
 at-some l = record { ptr = (0, 0); name = 0; now = l }
 
-abbrev made-update : SequenceEncoder → List ℕ → List ℕ → UpdateCall
+abbrev pub made-update : SequenceEncoder → List ℕ → List ℕ → UpdateCall
 made-update s piece memory =
     record {
       κs = ([], ([], tt));

@@ -1,7 +1,7 @@
 -- The worked table. States the starred rows of document 01, "Worked table", for each alphabet a row of codes and its name from "Leaf 1", and then rows for what
 -- the words settle and no starred row shows: each status, each bound, and which question comes first where two are answered by no; for request A1 what
--- comes of folding, for request A5 how non-members are counted, for request A7 which codes the covered read refuses, for request A9 what guesses come to. One list of
--- calls and what comes of them, in numbers and texts that are written out.
+-- comes of folding, for request A5 how non-members are counted, for request A7 which codes the covered read refuses, for request A9 what guesses come to, for request A10
+-- what is told of a piece before it is packed. One list of calls and what comes of them, in numbers and texts that are written out.
 use Prim.Native.Nat.{ℕ}
 use Prim.Native.String.{String}
 use mathlib.Core.Path.{_≡_}
@@ -20,6 +20,7 @@ use Rattle.alphabet.specs.Genome.{laterAt, latest}
 use Rattle.alphabet.specs.Answers.{namedReply, guesserUpdatedReply, guessedReply}
 use Rattle.packing.specs.declared.first.First.{First}
 use Rattle.packing.specs.declared.encoder.SequenceEncoder.{SequenceEncoder}
+use Rattle.packing.specs.declared.encoder.Updated.{Updated}
 use Rattle.packing.specs.Encode.{encodeAt, encodeMemory, freshEncoder, updateAt, finalizeAt}
 use Rattle.packing.specs.Range.{rangeAt}
 use Rattle.packing.specs.Answers.{encodedReply, updatedReply, finalizedReply, rangeReply}
@@ -30,7 +31,7 @@ use Rattle.streaming.specs.Stream.{startStreamAt, streamAt, streamMemory, endAt
 use Rattle.streaming.specs.Answers.{streamStartedReply, streamedReply, endedReply}
 use Rattle.streaming.specs.Count.{nextBy}
 use Rattle.record.specs.Calls as calls
-use Rattle.record.specs.Runs.{run}
+use Rattle.record.specs.Runs.{nextEncoder, run}
 
 -- ---- rows
 
@@ -42,6 +43,8 @@ pub data Told : Type 0 where
   leaves : Reply → List ℕ → Told
   -- of a stream call these, and what an end call then tells
   streams : Reply → List ℕ → Reply → Told
+  -- of a piece that is asked about, what it tells and the next state
+  foretells : Reply → SequenceEncoder → Told
   -- of a list of an encoder's calls what each tells, and the bytes written, joined
   joins : List Reply → List ℕ → Told
   -- an alphabet, and bytes
@@ -139,7 +142,7 @@ cover alphabet lent offset start end room = tells (readReply (coveredAt alphabet
 abbrev pub start : ℕ → ℕ → ℕ → Told
 start alphabet skip budget = tells (streamStartedReply (startStreamAt alphabet skip budget))
 
--- from states of any kind: `guess` and `update` of a guesser; `update` and `finalize` of an encoder; the end call of a stream
+-- from states of any kind: `guess` and `update` of a guesser; `update`, `ask` and `finalize` of an encoder; the end call of a stream
 abbrev pub masked : ℕ → Bool → Told
 masked mask fold = tells (guessedReply (guessAt (record { acc = mask; fold = fold })))
 
@@ -152,6 +155,12 @@ encoder k seen bits pending first count fold =
 
 abbrev pub update : SequenceEncoder → String → ℕ → Told
 update s piece room = tells (updatedReply (updateAt s (bytesOf piece) room))
+
+abbrev pub asked : Updated → Told
+asked answer = foretells (updatedReply answer) (nextEncoder answer)
+
+abbrev pub ask : SequenceEncoder → String → ℕ → Told
+ask s piece room = asked (updateAt s (bytesOf piece) room)
 
 abbrev pub finalize : SequenceEncoder → ℕ → Told
 finalize s room = tells (finalizedReply (finalizeAt s room))
@@ -370,4 +379,20 @@ rows =
     ∷ masked 17 keeping gives yes (0 ∷ [])
     ∷ masked 18 keeping gives yes (1 ∷ [])
     ∷ later 0 1 gives yes (1 ∷ [])
+    -- a piece asked about: with no memory 4 tells that a byte is completed, and a piece that completes none is accepted; with enough the count is that of the bytes
+    -- that will be used, whatever the length
+    ∷ ask (encoder Dna2bit 0 0 0 First.Nothing 0 keeping) "ACGTA" 0 gives foretells (refused 4 []) (encoder Dna2bit 0 0 0 First.Nothing 0 keeping)
+    ∷ ask (encoder Dna2bit 0 0 0 First.Nothing 0 keeping) "ACGTA" 1 gives foretells (accepted (1 ∷ [])) (encoder Dna2bit 5 2 2 First.Nothing 0 keeping)
+    ∷ ask (encoder Dna2bit 0 0 0 First.Nothing 0 keeping) "ACGTA" 18446744073709551615 gives foretells (accepted (1 ∷ [])) (encoder Dna2bit 5 2 2 First.Nothing 0 keeping)
+    ∷ ask (encoder Dna2bit 0 0 0 First.Nothing 0 keeping) "ACG" 0 gives foretells (accepted (0 ∷ [])) (encoder Dna2bit 3 6 39 First.Nothing 0 keeping)
+    -- behind bits that pend; in three bits, where a code crosses a byte's end
+    ∷ ask (encoder Dna2bit 1 2 2 First.Nothing 0 keeping) "CGT" 0 gives foretells (refused 4 []) (encoder Dna2bit 1 2 2 First.Nothing 0 keeping)
+    ∷ ask (encoder Dna2bit 1 2 2 First.Nothing 0 keeping) "CGT" 1 gives foretells (accepted (1 ∷ [])) (encoder Dna2bit 4 0 0 First.Nothing 0 keeping)
+    ∷ ask (encoder Dna3bit 2 6 1 First.Nothing 0 keeping) "GTN" 1 gives foretells (accepted (1 ∷ [])) (encoder Dna3bit 5 7 28 First.Nothing 0 keeping)
+    -- non-members are in the next state and refuse nothing; which they are goes by the choice to fold
+    ∷ ask (encoder Dna2bit 4 0 0 First.Nothing 0 keeping) "aCNT" 1 gives foretells (accepted (1 ∷ [])) (encoder Dna2bit 8 0 0 (First.At 4 0x61) 2 keeping)
+    ∷ ask (encoder Dna2bit 4 0 0 First.Nothing 0 folding) "aCNT" 1 gives foretells (accepted (1 ∷ [])) (encoder Dna2bit 8 0 0 (First.At 6 0x4e) 1 folding)
+    -- 1 before 2 and 4, 2 before 4, whatever the length
+    ∷ ask (encoder Ascii 1152921504606846976 1 0 First.Nothing 0 keeping) "A" 0 gives foretells (refused 1 []) (encoder Ascii 1152921504606846976 1 0 First.Nothing 0 keeping)
+    ∷ ask (encoder Ascii 1152921504606846976 0 0 First.Nothing 0 keeping) "A" 0 gives foretells (refused 2 []) (encoder Ascii 1152921504606846976 0 0 First.Nothing 0 keeping)
     ∷ []

@@ -128,6 +128,45 @@ fn pack_pieces(label: &[u8], fold: bool, one: &[u8], two: &[u8]) {
     finish(next);
 }
 
+// What `update` would answer with `room` bytes of memory: how many it would write, and what the next state has seen and keeps.
+fn ask(label: &[u8], encoder: SequenceEncoder, piece: &[u8], room: usize) {
+    print(label);
+    match encoder.ask(piece, room) {
+        Updated::Wrote(count, next) => {
+            print_number(count as u64);
+            print(b" to be written, ");
+            print_number(next.seen as u64);
+            print(b" seen, ");
+            print_number(next.bits as u64);
+            print(b" bits pending, value ");
+            print_number(next.pending as u64);
+            let bad = next.bad;
+            print(b", non-members ");
+            print_number(bad.count as u64);
+            print(b"\n");
+        }
+        Updated::Refused(refusal, _) => print_refusal(refusal),
+    }
+}
+
+// A scheduler asks before it lends memory: with none, with what is enough, with any number; then the piece is packed as it was asked about.
+fn asking() {
+    let EncoderStarted::Fresh(encoder) = SequenceEncoder::new(0, false) else {
+        return;
+    };
+    ask(b"ask ACGTA, room 0: ", encoder, b"ACGTA", 0);
+    ask(b"ask ACGTA, room 1: ", encoder, b"ACGTA", 1);
+    ask(
+        b"ask ACGTA, room 2^64 - 1: ",
+        encoder,
+        b"ACGTA",
+        18446744073709551615,
+    );
+    ask(b"ask ACG, room 0: ", encoder, b"ACG", 0);
+    ask(b"ask ACNT, room 1: ", encoder, b"ACNT", 1);
+    pack_pieces(b"ACGTA", false, b"ACGTA", b"CGT");
+}
+
 // The same, as letters.
 fn print_text(memory: &[u8], count: usize) {
     if count <= memory.len() {
@@ -272,6 +311,7 @@ fn main() {
     pack_by_update(0, b"ACNT");
     folding();
     counting();
+    asking();
     windows();
     residues();
     stream();
