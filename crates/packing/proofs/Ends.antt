@@ -27,12 +27,13 @@ use Rattle.packing.specs.declared.bad.Bad.{Bad}
 use Rattle.packing.specs.declared.encoder.SequenceEncoder.{SequenceEncoder}
 use Rattle.packing.specs.declared.encoder.EncoderStarted.{EncoderStarted}
 use Rattle.packing.specs.declared.encoder.Updated.{Updated}
+use Rattle.packing.specs.declared.encoder.Due.{Due}
 use Rattle.packing.specs.declared.encoder.Finalized.{Finalized}
 use Rattle.packing.specs.declared.sequence.Encoded.{Encoded}
 use Rattle.packing.specs.declared.range.Range.{Range}
 use Rattle.packing.specs.Encode.{digitOf, digitsOf, packing, firstFrom, badIn, badFrom, bothBad, unlessBad}
 use Rattle.packing.specs.Encode.{encodeBy, encodeAt, encodeWrites, encodeMemory, packsBy, freshEncoder, soundFirst, soundCount, soundBad, soundEncoder, startEncoderAt}
-use Rattle.packing.specs.Encode.{pieceBits, pieceBitCount, updated, updateAt, updateWrites, updateMemory}
+use Rattle.packing.specs.Encode.{pieceBits, pieceBitCount, updated, updateAt, dueAt, updateWrites, updateMemory}
 use Rattle.packing.specs.Encode.{finalizeRest, finalizeAt, finalizeWrites, finalizeMemory}
 use Rattle.packing.specs.Range.{rangeAt}
 use Rattle.packing.specs.Run.{Pends, ran, leftOver}
@@ -132,6 +133,23 @@ asked-yes false n e = absurd (n e)
 
 -- ---- `update`
 
+-- questions 5 and 9 of a piece of so many symbols
+module _ (s : SequenceEncoder) (bounded : s .seen ≤ limit) (len room : ℕ) where
+  pub due-far : limit - s .seen < len → Due.Refused (by 2 []) ≡ dueAt s len room
+  unfolding dueAt
+  due-far l = sym (rw (lt-leb (s .seen + len) limit (omega arith)))
+
+  near : len ≤ limit - s .seen → inBounds (s .seen + len) ≡ true
+  near l = le-leb (s .seen + len) limit (omega arith)
+
+  pub due-short : len ≤ limit - s .seen → room < (s .bits + len * packsBy s .width) / 8 → Due.Refused (by 4 []) ≡ dueAt s len room
+  unfolding dueAt pieceBitCount
+  due-short l m = sym (rw (near l, lt-leb ((s .bits + len * packsBy s .width) / 8) room m))
+
+  pub due-fine : len ≤ limit - s .seen → (s .bits + len * packsBy s .width) / 8 ≤ room → Due.Bytes ((s .bits + len * packsBy s .width) / 8) ≡ dueAt s len room
+  unfolding dueAt pieceBitCount
+  due-fine l m = sym (rw (near l, le-leb ((s .bits + len * packsBy s .width) / 8) room m))
+
 module _ (s : SequenceEncoder) (piece : List ℕ) where
   abbrev total : ℕ
   total = s .bits + length piece * packsBy s .width
@@ -141,24 +159,28 @@ module _ (s : SequenceEncoder) (piece : List ℕ) where
     unfolding updateAt
     update-unsound e = sym (rw e)
 
-    pub update-far : soundEncoder s ≡ true → limit - s .seen < length piece → Updated.Refused (by 2 []) s ≡ updateAt s piece room
-    unfolding updateAt
-    update-far e l =
-        let h = sound s e .bounded in
-        sym (rw (e, lt-leb (s .seen + length piece) limit (omega arith)))
+    -- the other questions, in two steps
+    abbrev byDue : Due → Updated
+    byDue (Due.Bytes count) = Updated.Wrote count (updated s piece)
+    byDue (Due.Refused q) = Updated.Refused q s
 
-    near : soundEncoder s ≡ true → length piece ≤ limit - s .seen → inBounds (s .seen + length piece) ≡ true
-    near e l = let h = sound s e .bounded in le-leb (s .seen + length piece) limit (omega arith)
+    pub update-due : soundEncoder s ≡ true → (d : Due) → d ≡ dueAt s (length piece) room → byDue d ≡ updateAt s piece room
+    unfolding updateAt dueAt
+    update-due e d h = ap byDue h ∙ go (inBounds (s .seen + length piece)) (leb (pieceBitCount s (length piece) / 8) room) ∙ sym (rw e)
+      where
+        go : (b c : Bool)
+            → byDue (ask b else Due.Refused (by 2 []) then ask c else Due.Refused (by 4 []) then Due.Bytes (pieceBitCount s (length piece) / 8))
+            ≡ (ask b else Updated.Refused (by 2 []) s then ask c else Updated.Refused (by 4 []) s then Updated.Wrote (pieceBitCount s (length piece) / 8) (updated s piece))
+        go false c = refl
+        go true false = refl
+        go true true = refl
 
-    pub update-short : soundEncoder s ≡ true → length piece ≤ limit - s .seen → room < (s .bits + length piece * packsBy s .width) / 8
-        → Updated.Refused (by 4 []) s ≡ updateAt s piece room
-    unfolding updateAt pieceBitCount
-    update-short e l m = sym (rw (e, near e l, lt-leb (total / 8) room m))
+    pub update-refused : soundEncoder s ≡ true → (d : Due) → d ≡ dueAt s (length piece) room → (q : Refusal) → d ≡ Due.Refused q → Updated.Refused q s ≡ updateAt s piece room
+    update-refused e d h q f = ap byDue (sym f) ∙ update-due e d h
 
-    pub update-fine : soundEncoder s ≡ true → length piece ≤ limit - s .seen → (s .bits + length piece * packsBy s .width) / 8 ≤ room
-        → Updated.Wrote ((s .bits + length piece * packsBy s .width) / 8) (updated s piece) ≡ updateAt s piece room
-    unfolding updateAt pieceBitCount
-    update-fine e l m = sym (rw (e, near e l, le-leb (total / 8) room m))
+    pub update-fine : soundEncoder s ≡ true → (d : Due) → d ≡ dueAt s (length piece) room → (count : ℕ) → d ≡ Due.Bytes count
+        → Updated.Wrote count (updated s piece) ≡ updateAt s piece room
+    update-fine e d h count f = ap byDue (sym f) ∙ update-due e d h
 
     -- an accepted piece: what was asked, and the count
     pub record Accepted (count : ℕ) : Type 0 where

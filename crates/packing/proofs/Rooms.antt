@@ -18,7 +18,7 @@ use Rattle.packing.specs.declared.encoder.SequenceEncoder.{SequenceEncod
 use Rattle.packing.specs.declared.encoder.Updated.{Updated}
 use Rattle.packing.specs.Encode.{packsBy, soundEncoder, pieceBits, pieceBitCount, updated, updateAt, updateWrites, updateMemory}
 use Rattle.packing.specs.Answers.{updatedReply}
-use Rattle.packing.proofs.Ends.{product-le, sound, few-bits, update-fine, update-accepted}
+use Rattle.packing.proofs.Ends.{product-le, sound, few-bits, update-accepted}
 
 module _ (s : SequenceEncoder) (piece : List ℕ) where
   abbrev due : ℕ
@@ -36,7 +36,7 @@ module _ (s : SequenceEncoder) (piece : List ℕ) where
   accepted-at room count next e other =
       let h = update-accepted s piece room count next e in
       let near : inBounds (s .seen + length piece) ≡ true = le-leb (s .seen + length piece) limit (h .bounded) in
-      let same : Updated.Wrote due (updated s piece) ≡ Updated.Wrote count next = update-fine s piece room (h .is-sound) (omega (arith, h .bounded)) (h .fits) ∙ e in
+      let same : Updated.Wrote due (updated s piece) ≡ Updated.Wrote count next = sym (by-length (h .is-sound) near room ∙ rw (le-leb due room (h .fits))) ∙ e in
       by-length (h .is-sound) near other
       ∙ ap₂ (λ (n : ℕ) (wrote : Updated). ask leb n other else Updated.Refused (by 4 []) s then wrote) (sym (h .counted)) same
 

@@ -27,6 +27,10 @@ pub record Ready (b p a n room : ℕ) : Type 0 where
   pub pends : Pends b p a n
   pub fits : (p + n * b) / 8 ≤ room
 
+-- a width of a packed alphabet
+abbrev pub Narrow : ℕ → Type 0
+Narrow b = (2 ≤ b) × (b ≤ 5)
+
 -- a byte's entry in a call's encoding table: in a packed alphabet a member's code, and beside it the bit 40, and FF for another byte; in a plain one its code
 unfoldable pub entryOf : Coding → ℕ → ℕ
 entryOf A v = cond (ltb (A .width) 8) (cond (A .member v) (A .code v + 0x40) 0xff) (A .code v)

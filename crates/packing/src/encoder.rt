@@ -23,7 +23,7 @@ ghost use Prim.Native.Nat.{_+_, _≤_};
 ghost use lib.ListN.{length};
 ghost use Rattle.bits.specs.Tables.{tabulate};
 ghost use Rattle.alphabet.specs.Questions.{limit};
-ghost use Rattle.packing.specs.Encode.{packsBy, soundBad, soundEncoder, startEncoderAt, updated, updateAt, updateMemory, finalizeAt, finalizeMemory};
+ghost use Rattle.packing.specs.Encode.{packsBy, soundBad, soundEncoder, startEncoderAt, badFrom, updated, dueAt, updateAt, updateMemory, finalizeAt, finalizeMemory};
 ghost use Rattle.packing.specs.Run.{entryOf};
 ghost use Rattle.alphabet.specs.Symbols.{codingBy};
 
@@ -48,6 +48,12 @@ pub enum EncoderStarted {
 pub enum Updated {
     Wrote(usize, SequenceEncoder),
     Refused(Refusal, SequenceEncoder),
+}
+
+// What comes of a piece's length: the bytes that it completes, or a refusal.
+pub enum Due {
+    Bytes(usize),
+    Refused(Refusal),
 }
 
 // What `finalize` answers: the bytes written.
@@ -121,10 +127,27 @@ impl SequenceEncoder {
         is_sound_bad(kind, self.fold, seen, bad)
     }
 
-    // The state after an accepted piece. A non-member counts as a symbol of b ones, and packing goes on; the first one's position and how many there are, over all
-    // accepted pieces, are kept for `finalize`.
-    fn next(self, table: &[u8; 256], piece: &[u8]) -> SequenceEncoder
-        requires { ⌜ (now table ≡ tabulate 256 (entryOf (packsBy self))) × ((soundEncoder self ≡ true) × (self .seen + length (now piece) ≤ limit)) ⌝ }
+    // Questions 5 and 9 of a piece of `len` symbols, and memory of `room` bytes: how many it completes, or why it is refused.
+    fn due(self, len: usize, room: usize) -> Due
+        requires { ⌜ soundEncoder self ≡ true ⌝ }
+        ensures { λ r. ⌜ r ≡ dueAt self len room ⌝ }
+    {
+        if LIMIT - self.seen < len {
+            return Due::Refused(Refusal::TooFar);
+        }
+        let kind = self.alphabet;
+        let count = (self.bits as usize + len * kind.bits_per_symbol()) / 8;
+        if room < count {
+            return Due::Refused(Refusal::ShortMemory);
+        }
+        Due::Bytes(count)
+    }
+
+    // The state after an accepted piece, whose non-members were found. A non-member counts as a symbol of b ones, and packing goes on; the first one's position and how
+    // many there are, over all accepted pieces, are kept for `finalize`.
+    fn next(self, table: &[u8; 256], piece: &[u8], found: Bad) -> SequenceEncoder
+        requires { ⌜ (now table ≡ tabulate 256 (entryOf (packsBy self)))
+            × ((soundEncoder self ≡ true) × ((self .seen + length (now piece) ≤ limit) × (found ≡ badFrom (packsBy self) (self .seen) (now piece)))) ⌝ }
         ensures { λ r. ⌜ r ≡ updated self (now (piece .entry)) ⌝ }
     {
         let kind = self.alphabet;
@@ -133,10 +156,9 @@ impl SequenceEncoder {
         let len = piece.len();
         let pending = left_over(table, b, bits, self.pending as u64, piece);
         let left = ((bits + len * b) % 8) as u8;
-        let seen = self.seen;
-        let after = seen + len;
+        let after = self.seen + len;
         let before = self.bad;
-        let bad = both_bad(before, bad_from(kind, self.fold, table, seen, piece));
+        let bad = both_bad(before, found);
         SequenceEncoder {
             alphabet: kind,
             seen: after,
@@ -147,39 +169,28 @@ impl SequenceEncoder {
         }
     }
 
-    // The answer to a piece and memory of `room` bytes: the questions in their order, and nothing written. The table is the state's. `ask` and `update` have no other
-    // place that asks, or that makes the next state.
-    fn asked(self, table: &[u8; 256], piece: &[u8], room: usize) -> Updated
-        requires { ⌜ now table ≡ tabulate 256 (entryOf (packsBy self)) ⌝ }
+    // What `update` would answer to a piece and memory of `room` bytes, next state and refusals included. No memory is lent, so `room` may be any number.
+    pub fn ask(self, piece: &[u8], room: usize) -> Updated
         ensures { λ r. ⌜ r ≡ updateAt self (now (piece .entry)) room ⌝ }
     {
         if !self.is_sound() {
             return Updated::Refused(Refusal::Unsound, self);
         }
-        let len = piece.len();
-        if LIMIT - self.seen < len {
-            return Updated::Refused(Refusal::TooFar, self);
+        match self.due(piece.len(), room) {
+            Due::Refused(refusal) => Updated::Refused(refusal, self),
+            Due::Bytes(count) => {
+                let kind = self.alphabet;
+                let mut table = [INVALID_CODE; 256];
+                lay_codes(kind, &mut table);
+                fold_entries(has_effect(self.fold, kind), &mut table);
+                let found = bad_from(kind, self.fold, &table, self.seen, piece);
+                Updated::Wrote(count, self.next(&table, piece, found))
+            }
         }
-        let kind = self.alphabet;
-        let count = (self.bits as usize + len * kind.bits_per_symbol()) / 8;
-        if room < count {
-            return Updated::Refused(Refusal::ShortMemory, self);
-        }
-        Updated::Wrote(count, self.next(table, piece))
     }
 
-    // What `update` would answer to a piece and memory of `room` bytes, next state and refusals included. No memory is lent, so `room` may be any number.
-    pub fn ask(self, piece: &[u8], room: usize) -> Updated
-        ensures { λ r. ⌜ r ≡ updateAt self (now (piece .entry)) room ⌝ }
-    {
-        let kind = self.alphabet;
-        let mut table = [INVALID_CODE; 256];
-        lay_codes(kind, &mut table);
-        fold_entries(has_effect(self.fold, kind), &mut table);
-        self.asked(&table, piece, room)
-    }
-
-    // Packs a piece behind what pends, and writes the bytes that it completes at the front of `out`.
+    // Packs a piece behind what pends, and writes the bytes that it completes at the front of `out`. It asks as `ask` does, by the same functions; the table comes before
+    // the questions, where it costs a short piece less.
     pub fn update(self, piece: &[u8], out: &mut [u8]) -> Updated
         ensures { λ r. ⌜ r ≡ updateAt self (now (piece .entry)) (length (now (out .entry))) ⌝ }
         ensures memory { λ _. ⌜ now (out .exit) ≡ updateMemory self (now (piece .entry)) (now (out .entry)) ⌝ }
@@ -188,14 +199,20 @@ impl SequenceEncoder {
         let mut table = [INVALID_CODE; 256];
         lay_codes(kind, &mut table);
         fold_entries(has_effect(self.fold, kind), &mut table);
-        let answer = self.asked(&table, piece, out.len());
-        let Updated::Wrote(_, _) = answer else {
-            return answer;
-        };
-        let b = kind.bits_per_symbol();
-        let bits = self.bits as usize;
-        pack(&table, b, bits, self.pending as u64, piece, out);
-        answer
+        if !self.is_sound() {
+            return Updated::Refused(Refusal::Unsound, self);
+        }
+        match self.due(piece.len(), out.len()) {
+            Due::Refused(refusal) => Updated::Refused(refusal, self),
+            Due::Bytes(count) => {
+                let found = bad_from(kind, self.fold, &table, self.seen, piece);
+                let next = self.next(&table, piece, found);
+                let b = kind.bits_per_symbol();
+                let bits = self.bits as usize;
+                pack(&table, b, bits, self.pending as u64, piece, out);
+                Updated::Wrote(count, next)
+            }
+        }
     }
 
     // The answer to the end of the text and memory of `room` bytes; nothing is written.

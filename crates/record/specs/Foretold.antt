@@ -36,10 +36,11 @@ memoryGiven u = let (self, (piece, (out, _))) = u .args in now out
 abbrev pub memoryLeft : UpdateCall → List ℕ
 memoryLeft u = let (self, (piece, (out, _))) = u .exit in now out
 
--- the real call: a copy of the state, the piece, and output memory of the length that was asked about, whatever it holds
+-- the real call: a copy of the state, and the piece
 pub record AsAsked (a : AskCall) (u : UpdateCall) : Type 0 where
   pub state : stateGiven u ≡ stateAsked a
   pub piece : pieceGiven u ≡ pieceAsked a
+  -- with output memory of that length, whatever it holds
   pub room : length (memoryGiven u) ≡ roomAsked a
 
 -- the same state and piece asked about with two lengths

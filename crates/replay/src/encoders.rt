@@ -10,6 +10,7 @@ use fantailclock::Range;
 use fantailclock::Updated;
 use fantailclock::fc_byte_range_for_bases;
 use fantailclock::fc_encode_sequence;
+use fantailclock::fc_encoder_ask;
 use fantailclock::fc_encoder_finalize;
 use fantailclock::fc_encoder_new;
 use fantailclock::fc_encoder_update;
@@ -50,10 +51,10 @@ fn started(answer: EncoderStarted) -> Answer {
     }
 }
 
-fn updated(answer: Updated) -> Answer {
+fn updated(takes: usize, answer: Updated) -> Answer {
     let next = answer.next;
     Answer {
-        takes: 9,
+        takes,
         tells: 11,
         words: [
             answer.refusal,
@@ -92,6 +93,9 @@ fn place(name: &[u8]) -> u64 {
     if same(name, b"byte_range_for_bases") {
         return 5;
     }
+    if same(name, b"encoder_ask") {
+        return 6;
+    }
     0
 }
 
@@ -101,10 +105,11 @@ pub fn answer(name: &[u8], given: &[u64; 11], text: &[u8], out: &mut [u8]) -> An
     let second = given[1];
     match place(name) {
         1 => started(fc_encoder_new(first, second)),
-        2 => updated(fc_encoder_update(encoder(given), text, out)),
+        2 => updated(9, fc_encoder_update(encoder(given), text, out)),
         3 => packed(9, fc_encoder_finalize(encoder(given), out)),
         4 => packed(2, fc_encode_sequence(first, second, text, out)),
         5 => range(fc_byte_range_for_bases(first, second, given[2])),
+        6 => updated(10, fc_encoder_ask(encoder(given), text, given[9])),
         _ => unknown(),
     }
 }

@@ -24,18 +24,15 @@ before w =
     let s = start w in
     let a = s .args in
     subst (λ (b : ℕ). Pends b (a .self .bits) (a .self .pending) (length (a .piece .now))) (sym (w .bits-per-symbol .ensures))
-    (pends (a .self) (a .piece .now) (s .pre .1 .0) (s .pre .1 .1))
+    (pends (a .self) (a .piece .now) (s .pre .1 .0) (s .pre .1 .1 .0))
 
 -- the piece's bits are few
 product-here : (w : tie.After-bits-per-symbol) → length (start w .args .piece .now) * w .bits-per-symbol .result ≤ limit * 8
 product-here w = product-le (length (start w .args .piece .now)) (w .bits-per-symbol .result) (before w .bounded) (before w .narrow)
 
--- where the bits left over are known, and what is bad in the piece
+-- where the bits left over are known
 abbrev width : tie.After-left-over → tie.After-bits-per-symbol
 width c = c .before .before .before
-
-abbrev left : tie.After-bad-from → tie.After-left-over
-left f = f .before .before
 
 bits-per-symbol-requires : tie.Need-bits-per-symbol-requires
 bits-per-symbol-requires c κs = search needs
@@ -59,24 +56,21 @@ cast-left : tie.Need-cast-left
 cast-left c = search needs
 
 add-after : tie.Need-add-after
-add-after c = search needs
-
-bad-from-requires : tie.Need-bad-from-requires
-bad-from-requires c κs = search needs
+add-after c = omega (arith, start (width (c .before)) .pre .1 .1 .0)
 
 -- no more non-members than symbols, before the piece and in it
 both-bad-requires : tie.Need-both-bad-requires
 both-bad-requires c κs =
-    let s = start (width (left c)) in
+    let s = start (width (c .before .before)) in
     let a = s .args in
     let A = packsBy (a .self) in
-    let some = subst (λ (b : Bad). b .count ≤ length (a .piece .now)) (sym (c .bad-from .ensures)) (many-le (λ v. not (A .member v)) (a .piece .now)) in
-    omega (arith, some, few-bad A (a .self .seen) (a .self .bad) (sound (a .self) (s .pre .1 .0) .non-members), s .pre .1 .1)
+    let (sure, (near, found)) = s .pre .1 in
+    let some = subst (λ (b : Bad). b .count ≤ length (a .piece .now)) (sym found) (many-le (λ v. not (A .member v)) (a .piece .now)) in
+    omega (arith, some, few-bad A (a .self .seen) (a .self .bad) (sound (a .self) sure .non-members), near)
 
 returns : tie.Need-returns
 returns c =
-    let f = c .before in
-    let l = left f in
+    let l = c .before .before .before in
     let w = width l in
     let s = start w in
     let a = s .args in
@@ -88,7 +82,7 @@ returns c =
     ∙ ap (λ (b : ℕ). leftOver b (a .self .bits) (a .self .pending) (looked (a .table .now) (a .piece .now))) e
     ∙ left-digits (a .self .fold) (a .self .alphabet) (a .table .now) (a .piece .now) (s .pre .0) bytes (a .self .bits) (a .self .pending) in
     next-state (a .self) (a .piece .now) _ (over .result) (c .both-bad .result) (ap (λ (b : ℕ). (a .self .bits + n * b) % 8) e) pending
-    (c .both-bad .ensures ∙ ap (bothBad (a .self .bad)) (f .bad-from .ensures))
+    (c .both-bad .ensures ∙ ap (bothBad (a .self .bad)) (s .pre .1 .1 .1))
 
 pub next-spec : {M : Type 1} → statement M
 next-spec =
@@ -102,6 +96,5 @@ next-spec =
     add-left
     cast-left
     add-after
-    bad-from-requires
     both-bad-requires
     returns)
