@@ -139,6 +139,14 @@ fc_encoder_started fc_encoder_new(uint64_t alphabet, uint64_t fold);
  * A byte that is no member counts as a symbol whose bits are all ones; the next state counts it, and fc_encoder_finalize reports it. Refuses by 8, 1, 2, 4. */
 fc_updated fc_encoder_update(fc_encoder state, const uint8_t *piece, size_t len, uint8_t *out, size_t room);
 
+/* What fc_encoder_update would answer with output memory of `room` bytes, next state and refusals included. `room` is a number, any up to UINT64_MAX: no memory
+ * is lent, and nothing is written. It is for a scheduler, which wants to know what a piece needs before it lends a page. With `room` 0 the refusal 4 tells that
+ * the piece needs a page at all: it completes a byte. With UINT64_MAX, or any number from 2^60 on, 4 never comes, and `count` is how many bytes the update will
+ * use: lent so many or more it is accepted with the same `count` and `next`, lent fewer it is refused by 4. The piece's non-members are counted in `next` and
+ * are never a refusal by 5. Go on from `next` only where `count` is 0 or the update was made too: the bytes that it writes are nowhere else.
+ * Refuses by 8, 1, 2, 4, as the update does; `next` is then the state that was handed in. */
+fc_updated fc_encoder_ask(fc_encoder state, const uint8_t *piece, size_t len, uint64_t room);
+
 /* Writes the last byte, where bits pend, with zeros behind them; `count` is 0 or 1. It hands no state back: the caller still holds it.
  * Refuses by 8, 1, 5, 4; 5 tells the state's first non-member and its count. */
 fc_packed fc_encoder_finalize(fc_encoder state, uint8_t *out, size_t room);

@@ -210,6 +210,142 @@ static void hold_bad_count(void) {
     hold("a refused start", fc_encoder_new(FC_UNKNOWN + 1, 7).next.bad_count, 0);
 }
 
+/* An answer to a piece, number by number. */
+static void hold_updated(const char *what, fc_updated got, fc_updated right) {
+    hold(what, got.refusal, right.refusal);
+    hold(what, got.count, right.count);
+    hold(what, got.next.alphabet, right.next.alphabet);
+    hold(what, got.next.seen, right.next.seen);
+    hold(what, got.next.pending_bits, right.next.pending_bits);
+    hold(what, got.next.pending, right.next.pending);
+    hold(what, got.next.has_bad, right.next.has_bad);
+    hold(what, got.next.bad_position, right.next.bad_position);
+    hold(what, got.next.bad_byte, right.next.bad_byte);
+    hold(what, got.next.fold, right.next.fold);
+    hold(what, got.next.bad_count, right.next.bad_count);
+}
+
+/* A piece asked about with some room, and packed with memory of that length, or with all of a page where there is no such memory: one answer, which is returned.
+ * The piece stays as it is; of the page only what the update counts changes. */
+static fc_updated hold_asked(const char *what, fc_encoder state, const uint8_t *piece, size_t len, uint64_t room, fc_updated right) {
+    static uint8_t page[64], before[64];
+    size_t lent = room < sizeof page ? (size_t)room : sizeof page;
+    memcpy(before, piece, len);
+    memset(page, 0xA5, sizeof page);
+    fc_updated asked = fc_encoder_ask(state, piece, len, room);
+    hold_updated(what, asked, right);
+    hold(what, !memcmp(before, piece, len), 1);
+    memset(before, 0xA5, sizeof before);
+    hold(what, !memcmp(before, page, sizeof page), 1);
+    hold_updated(what, fc_encoder_update(state, piece, len, page, lent), right);
+    hold(what, !memcmp(before + right.count, page + right.count, sizeof page - (size_t)right.count), 1);
+    return asked;
+}
+
+static fc_updated refused_by(uint64_t refusal, fc_encoder state) {
+    fc_updated answer = {refusal, 0, state};
+    return answer;
+}
+
+/* What the header says of fc_encoder_ask: pieces behind pieces, with all that the next state has, by rooms around the count and huge ones. */
+static void hold_pieces(void) {
+    static const struct {
+        uint64_t alphabet, fold;
+        const char *before, *piece;
+        uint64_t count, pending_bits, pending, bad_position, bad_byte, bad_count;
+    } pieces[] = {
+        {FC_DNA2BIT, 0, "", "", 0, 0, 0, 0, 0, 0},
+        {FC_DNA2BIT, 0, "", "ACG", 0, 6, 39, 0, 0, 0},
+        {FC_DNA2BIT, 0, "ACG", "", 0, 6, 39, 0, 0, 0},
+        {FC_DNA2BIT, 0, "ACG", "T", 1, 0, 0, 0, 0, 0},
+        {FC_DNA2BIT, 0, "A", "CGTACGTA", 2, 2, 2, 0, 0, 0},
+        {FC_DNA2BIT, 0, "AN", "NNxAC", 1, 6, 57, 1, 'N', 4},
+        {FC_DNA2BIT, 0, "", "acg", 0, 6, 63, 0, 'a', 3},
+        {FC_DNA2BIT, 1, "", "acg", 0, 6, 39, 0, 0, 0},
+        {FC_DNA2BIT, 1, "ac", "gnt", 1, 2, 0, 3, 'n', 1},
+        {FC_DNA3BIT, 0, "AC", "GTN", 1, 7, 28, 0, 0, 0},
+        {FC_DNA3BIT, 0, "", "ACGTNRYU", 3, 0, 0, 0, 0, 0},
+        {FC_DNA3BIT, 1, "acgtn", "S", 1, 2, 3, 5, 'S', 1},
+        {FC_DNA_IUPAC, 0, "N", "AC", 1, 4, 2, 0, 0, 0},
+        {FC_DNA_IUPAC, 1, "n", "x", 1, 0, 0, 1, 'x', 1},
+        {FC_PROTEIN, 0, "", "MK*", 1, 7, 20, 0, 0, 0},
+        {FC_PROTEIN, 1, "m", "{k", 1, 7, 104, 1, '{', 1},
+        {FC_ASCII, 0, "", "az{", 3, 0, 0, 0, 0, 0},
+        {FC_ASCII, 1, "az", "Q", 1, 0, 0, 0, 0, 0},
+        {FC_UNKNOWN, 1, "{", "}~", 2, 0, 0, 0, 0, 0},
+    };
+    for (size_t i = 0; i < sizeof pieces / sizeof *pieces; i++) {
+        uint8_t out[8];
+        const char *before = pieces[i].before, *piece = pieces[i].piece;
+        size_t len = strlen(piece);
+        uint64_t count = pieces[i].count;
+        const uint64_t rooms[] = {0, count - 1, count, count + 1, (uint64_t)1 << 32, ((uint64_t)1 << 60) - 1, (uint64_t)1 << 60, UINT64_MAX};
+        fc_encoder state = fc_encoder_update(fc_encoder_new(pieces[i].alphabet, pieces[i].fold).next, of(before), strlen(before), out, sizeof out).next;
+        fc_updated right = {FC_ACCEPTED, count, {pieces[i].alphabet, strlen(before) + len, pieces[i].pending_bits, pieces[i].pending, pieces[i].bad_count > 0,
+                                                 pieces[i].bad_position, pieces[i].bad_byte, pieces[i].fold, pieces[i].bad_count}};
+        for (size_t j = 0; j < sizeof rooms / sizeof *rooms; j++) /* where the count is 0, the one before it is UINT64_MAX */
+            hold_asked("a piece asked about", state, of(piece), len, rooms[j], rooms[j] < count ? refused_by(FC_REFUSED_SHORT_MEMORY, state) : right);
+    }
+}
+
+/* The same for every length of piece behind every length of text, by every room up to the count and one more: whether it is refused, and the count, by the header's
+ * formula; that it is the update's answer, by the update. Of three bytes one is no member, but in Ascii and Unknown. */
+static void hold_every_room(void) {
+    for (size_t i = 0; i < sizeof alphabets / sizeof *alphabets; i++)
+        for (uint64_t fold = 0; fold <= 1; fold++) {
+            uint8_t text[32], out[32];
+            for (size_t at = 0; at < sizeof text; at++) text[at] = (uint8_t)(at % 3 ? alphabets[i].symbols[at % strlen(alphabets[i].symbols)] : '{');
+            for (size_t before = 0; before < 8; before++) {
+                fc_encoder state = fc_encoder_update(fc_encoder_new(alphabets[i].number, fold).next, text, before, out, sizeof out).next;
+                for (size_t len = 0; before + len <= sizeof text; len++) {
+                    uint64_t count = (state.pending_bits + len * alphabets[i].bits) / 8;
+                    fc_updated made = fc_encoder_update(state, text + before, len, out, sizeof out);
+                    hold("the header's formula", made.count, count);
+                    for (uint64_t room = 0; room <= count + 1; room++)
+                        hold_asked("by every room", state, text + before, len, room, room < count ? refused_by(FC_REFUSED_SHORT_MEMORY, state) : made);
+                    hold_asked("by 2^60", state, text + before, len, (uint64_t)1 << 60, made);
+                    hold_asked("by UINT64_MAX", state, text + before, len, UINT64_MAX, made);
+                }
+            }
+        }
+}
+
+/* The refusals of fc_encoder_ask in their order, by a state with everything wrong that is put right number by number; a state at the last symbol; what the update
+ * and the end do after what was asked. */
+static void hold_asking(void) {
+    const uint64_t far = (uint64_t)1 << 60, rooms[] = {0, 1, far, UINT64_MAX};
+    uint8_t page[2];
+    for (size_t i = 0; i < sizeof rooms / sizeof *rooms; i++) {
+        fc_encoder state = {FC_UNKNOWN + 1, far, 0, 0, 2, 0, 0, 0, 0};
+        hold_asked("8 before 1, 2 and 4", state, of("ACGT"), 4, rooms[i], refused_by(FC_REFUSED_NO_ALPHABET, state));
+        hold_asked("8 without a piece", state, of(""), 0, rooms[i], refused_by(FC_REFUSED_NO_ALPHABET, state));
+        state.alphabet = FC_DNA2BIT;
+        hold_asked("1 before 2 and 4", state, of("ACGT"), 4, rooms[i], refused_by(FC_REFUSED_UNSOUND, state));
+        hold_asked("1 without a piece", state, of(""), 0, rooms[i], refused_by(FC_REFUSED_UNSOUND, state));
+        state.has_bad = 0;
+        hold_asked("2 before 4", state, of("ACGT"), 4, rooms[i], refused_by(FC_REFUSED_TOO_FAR, state));
+        fc_updated right = {FC_ACCEPTED, 0, state};
+        hold_asked("at 2^60 without a piece", state, of(""), 0, rooms[i], right);
+        right.count = 1;
+        state.seen = far - 4;
+        hold_asked("up to 2^60", state, of("ACGT"), 4, rooms[i], rooms[i] == 0 ? refused_by(FC_REFUSED_SHORT_MEMORY, state) : right);
+        state.bad_position = 9, state.bad_byte = 'A'; /* ignored where has_bad is 0: zeros come back, and on a refusal what was handed in */
+        hold_asked("what is ignored", state, of("ACGT"), 4, rooms[i], rooms[i] == 0 ? refused_by(FC_REFUSED_SHORT_MEMORY, state) : right);
+    }
+    fc_encoder state = fc_encoder_new(FC_DNA2BIT, 0).next;
+    fc_updated asked = fc_encoder_ask(state, of("ACNTACGTN"), 9, UINT64_MAX);
+    hold("never 5", asked.refusal, FC_ACCEPTED);
+    hold("the non-members in the next state", asked.next.bad_count, 2);
+    hold("the bytes that the update uses", asked.count, sizeof page);
+    hold("a byte fewer", fc_encoder_update(state, of("ACNTACGTN"), 9, page, sizeof page - 1).refusal, FC_REFUSED_SHORT_MEMORY);
+    hold_updated("just as many", fc_encoder_update(state, of("ACNTACGTN"), 9, page, sizeof page), asked);
+    hold("the first of them", page[0], 0x9C);
+    hold("the second of them", page[1], 0x9C);
+    hold("5 at the end", fc_encoder_finalize(asked.next, page, sizeof page).refusal, FC_REFUSED_NOT_MEMBER);
+    hold_pieces();
+    hold_every_room();
+}
+
 /* What the header says of `fold`: as an argument, in a state, in the answers. */
 static void hold_folding(void) {
     const uint64_t folding[] = {1, 2, 256, (uint64_t)1 << 32, UINT64_MAX};
@@ -350,6 +486,7 @@ int main(void) {
     hold_refusals();
     hold_codes();
     hold_bad_count();
+    hold_asking();
     hold_folding();
     hold_later();
     hold_genomes();

@@ -1,6 +1,7 @@
 /*
  * Packs a text, one with lowercase letters too, tells a stray letter from a wrong file by the number of bytes that are no members, guesses a genome's alphabet
- * chromosome by chromosome, fetches a window by byte range and covered read, also out of a file that a disk has damaged, and streams the same window byte by byte.
+ * chromosome by chromosome, asks what the pieces of a text need before it lends memory for them, fetches a window by byte range and covered read, also out of a file
+ * that a disk has damaged, and streams the same window byte by byte.
  *
  *     cc -std=c11 -Iinclude bindings/c/example.c target/staticlib/libfantailclock.a -o example && ./example
  *
@@ -44,6 +45,29 @@ static uint64_t guess_genome(uint64_t fold, const char *const *chromosomes, size
     return genome;
 }
 
+/* A text in pieces, of which each is asked about before a page is lent: many need none, and the others are lent just the bytes that they use. */
+static void schedule(uint64_t alphabet, const char *const *pieces, size_t count) {
+    uint8_t page[16];
+    fc_encoder state = fc_encoder_new(alphabet, 0).next;
+    for (size_t i = 0; i < count; i++) {
+        const uint8_t *piece = (const uint8_t *)pieces[i];
+        size_t len = strlen(pieces[i]);
+        fc_updated asked = fc_encoder_ask(state, piece, len, 0);
+        printf("%s: ", pieces[i]);
+        if (asked.refusal == FC_REFUSED_SHORT_MEMORY) { /* it completes a byte */
+            asked = fc_encoder_ask(state, piece, len, UINT64_MAX);
+            fc_updated step = fc_encoder_update(state, piece, len, page, (size_t)asked.count);
+            printf("a page, %" PRIu64 " bytes of it:", asked.count);
+            for (uint64_t byte = 0; byte < step.count; byte++)
+                printf(" %02X", page[byte]);
+        } else {
+            printf("no page");
+        }
+        state = asked.next; /* which is the update's; where no byte is written, asking was enough */
+        printf("; %" PRIu64 " bits pend, %" PRIu64 " of %" PRIu64 " are no members\n", state.pending_bits, state.bad_count, state.seen);
+    }
+}
+
 /* The bases from `start` to `end` out of the file's bytes that hold them, of which `missing` were not fetched. */
 static void fetch(uint64_t alphabet, const uint8_t *file, uint64_t start, uint64_t end, size_t missing) {
     uint8_t bases[16];
@@ -80,6 +104,7 @@ int main(void) {
     static const uint8_t protein[] = {'M', 'K', 'A', 'L', 'E', '*'};
     static const uint8_t masked[] = {'A', 'C', 'g', 't', 'n'};
     static const char *const chromosomes[] = {"ACGT", "acgtn", "GATtaca"};
+    static const char *const pieces[] = {"AC", "GTACGT", "N"};
     size_t count = sizeof chromosomes / sizeof *chromosomes;
     uint8_t file[16];
     uint64_t alphabet = fc_guess_alphabet(0, text, sizeof text).value;
@@ -94,6 +119,7 @@ int main(void) {
     uint64_t genome = guess_genome(1, chromosomes, count);
     for (size_t i = 0; i < count; i++)
         pack(genome, 1, (const uint8_t *)chromosomes[i], strlen(chromosomes[i]), file, sizeof file);
+    schedule(FC_DNA2BIT, pieces, sizeof pieces / sizeof *pieces);
     if (pack(alphabet, 0, text, sizeof text, file, sizeof file) == 0)
         return 1;
     fetch(alphabet, file, 2, 6, 0);

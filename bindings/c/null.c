@@ -48,6 +48,7 @@ CALL(display_name) { (void)in; TELL(fc_count, fc_display_name(g.alphabet, out.at
 CALL(guesser_update) { (void)out; TELL(fc_guessing, fc_guesser_update(guesser(g), in.at, in.len)); }
 CALL(guess_alphabet) { (void)out; TELL(fc_number, fc_guess_alphabet(g.fold, in.at, in.len)); }
 CALL(encoder_update) { TELL(fc_updated, fc_encoder_update(encoder(g), in.at, in.len, out.at, out.room)); }
+CALL(encoder_ask) { TELL(fc_updated, fc_encoder_ask(encoder(g), in.at, in.len, out.room)); }
 CALL(encoder_finalize) { (void)in; TELL(fc_packed, fc_encoder_finalize(encoder(g), out.at, out.room)); }
 CALL(encode_sequence) { TELL(fc_packed, fc_encode_sequence(g.alphabet, g.fold, in.at, in.len, out.at, out.room)); }
 CALL(stream_read) { TELL(fc_streamed, fc_stream_read(stream(g), in.at, in.len, out.at, out.room)); }
@@ -69,6 +70,7 @@ static const struct {
     {"fc_guesser_update", guesser_update},
     {"fc_guess_alphabet", guess_alphabet},
     {"fc_encoder_update", encoder_update},
+    {"fc_encoder_ask", encoder_ask},
     {"fc_encoder_finalize", encoder_finalize},
     {"fc_encode_sequence", encode_sequence},
     {"fc_stream_read", stream_read},

@@ -295,6 +295,21 @@ static PyObject *encoder_update_into(PyObject *module, arguments given, Py_ssize
     return counted(count, 3) ? update(module, given, given[2]) : NULL;
 }
 
+/* What an update would answer with memory of so many bytes, of which none is lent: the count and the next state. */
+static PyObject *encoder_ask(PyObject *module, arguments given, Py_ssize_t count) {
+    fc_encoder state;
+    uint64_t room;
+    Py_buffer piece;
+    if (!counted(count, 3) || !number(given[2], &room) || !taken(given[0], &state, sizeof state)) return NULL;
+    if (PyObject_GetBuffer(given[1], &piece, PyBUF_SIMPLE) < 0) return NULL;
+    PyThreadState *thread = piece.len > FREELY ? PyEval_SaveThread() : NULL;
+    fc_updated answer = fc_encoder_ask(state, piece.buf, (size_t)piece.len, room);
+    if (thread != NULL) PyEval_RestoreThread(thread);
+    PyBuffer_Release(&piece);
+    if (answer.refusal != 0) return refused(module, answer.refusal);
+    return Py_BuildValue("(Ky#)", (unsigned long long)answer.count, (char *)&answer.next, (Py_ssize_t)sizeof answer.next);
+}
+
 static fc_packed make_finalize(call *c, uint8_t *out, size_t room) {
     return fc_encoder_finalize(c->of.encoder, out, room);
 }
@@ -469,6 +484,7 @@ static PyMethodDef methods[] = {
     BOTH(encode_sequence),
     MANY(encoder_new),
     BOTH(encoder_update),
+    MANY(encoder_ask),
     ONE(encoder_finalize, METH_O),
     MANY(encoder_finalize_into),
     MANY(byte_range_for_bases),

@@ -48,6 +48,23 @@ them; by the count a stray letter is told from a wrong file.
     1 of 4: refused by 5: byte 4E at position 2 is no member, the only one
     9 of 12: refused by 5: byte 44 at position 2 is no member, the first of 9
 
+What an `update` would do can be asked before memory is lent for it: `ask` gives the count of bytes that it would write into
+memory of so many bytes and the encoder as it would be after it, or raises its refusal, and changes nothing. With room 0
+`ShortMemory` tells that the piece needs memory at all; with 2^60 or more it never comes, and the count is what the update uses.
+
+    >>> encoder, piece = fc.SequenceEncoder(fc.Alphabet.Dna2bit), b"ACGTACGTN"
+    >>> try:
+    ...     encoder.ask(piece, 0)
+    ... except fc.ShortMemory:
+    ...     asked = encoder.ask(piece, 1 << 60)
+    >>> asked.count, asked.next.state.bad_count
+    (2, 1)
+    >>> page = bytearray(asked.count)
+    >>> encoder.update_into(piece, page), page.hex()
+    (2, '9c9c')
+    >>> bytes(encoder.state) == bytes(asked.next.state)
+    True
+
 The covered read also refuses a code that no symbol has, as a damaged disk leaves it in a file of Protein, and `NoSymbol` tells
 which base has it. The other reads and the streams show X for it, and X stands for a residue that was seen and is not known.
 
@@ -265,7 +282,7 @@ class fc_encoder_started(ctypes.Structure):
 
 
 class fc_updated(ctypes.Structure):
-    """The count of an update, and the encoder's state after it."""
+    """The count of an update, made or asked about, and the encoder's state after it."""
 
     _fields_ = _numbers("refusal", "count") + [("next", fc_encoder)]
 
@@ -309,6 +326,7 @@ _FUNCTIONS = {
     "fc_later_alphabet": (fc_number, 2 * _N),
     "fc_encoder_new": (fc_encoder_started, 2 * _N),
     "fc_encoder_update": (fc_updated, [fc_encoder] + 2 * _MEMORY),
+    "fc_encoder_ask": (fc_updated, [fc_encoder] + _MEMORY + _N),
     "fc_encoder_finalize": (fc_packed, [fc_encoder] + _MEMORY),
     "fc_encode_sequence": (fc_packed, 2 * _N + 2 * _MEMORY),
     "fc_byte_range_for_bases": (fc_range, 3 * _N),
@@ -591,6 +609,13 @@ class _Ctypes:
         return answer.count, bytes(answer.next)
 
     @staticmethod
+    def encoder_ask(state, piece, room):
+        room, state = _number(room), fc_encoder.from_buffer_copy(state)
+        with _Lent(piece) as memory:
+            answer = _accepted(lib.fc_encoder_ask(state, *memory, room))
+        return answer.count, bytes(answer.next)
+
+    @staticmethod
     def encoder_finalize(state):
         state = fc_encoder.from_buffer_copy(state)
         return _own(lib.fc_encoder_finalize, [state], int(state.pending_bits > 0))[1]
@@ -765,12 +790,21 @@ def encode_sequence(alphabet: SupportsIndex, text: Buffer, *, fold: bool = False
     return _calls.encode_sequence(alphabet, fold, text)
 
 
+class Asked(NamedTuple):
+    """The answer of `SequenceEncoder.ask`: the bytes that the update would write, and the encoder as it would be after it.
+    Whoever goes on from `next` must have made the update too, unless the count is 0: the bytes are nowhere else."""
+
+    count: int  # type: ignore[assignment] # which a tuple has as a method
+    next: "SequenceEncoder"
+
+
 class SequenceEncoder:
     """Packs a text that comes in pieces: each `update` gives the bytes that its piece completes, `finalize` the last one
-    where bits pend. With `fold` a byte a to z of any piece is packed as its uppercase letter, except in Ascii and Unknown. A
-    byte that is no member is reported by `finalize`: the first as it was received, and how many there are in all pieces.
-    A refused call leaves the encoder as it was, its piece uncounted; an accepted `finalize` ends the text, and every call
-    after it is a ValueError. A state that was kept (an `fc_encoder`) may be handed in, and has its choice."""
+    where bits pend; `ask` tells what an `update` would do. With `fold` a byte a to z of any piece is packed as its uppercase
+    letter, except in Ascii and Unknown. A byte that is no member is reported by `finalize`: the first as it was received, and
+    how many there are in all pieces. A refused call leaves the encoder as it was, its piece uncounted; an accepted `finalize`
+    ends the text, and every call after it is a ValueError. A state that was kept (an `fc_encoder`) may be handed in, and has
+    its choice."""
 
     def __init__(
         self, alphabet: Optional[SupportsIndex] = None, state: Optional[fc_encoder] = None, *, fold: bool = False
@@ -799,6 +833,21 @@ class SequenceEncoder:
         """Packs a piece behind what pends; the bytes that it completes."""
         packed, self._state = _calls.encoder_update(self._open(), piece)
         return packed
+
+    def ask(self, piece: Buffer, room: SupportsIndex) -> Asked:
+        """What `update_into` would do with output memory of `room` bytes, which is a number here: no memory is lent, nothing is
+        written, and the encoder stays as it is. Raises what the update would raise: with room 0 `ShortMemory` where the piece
+        completes a byte, and so needs memory at all. With 2^60 or more that never comes, and the count is how many bytes the
+        update will use: lent so many or more it gives the same count and the same next state, lent fewer it is refused.
+        Non-members of the piece are counted in the next state and raise nothing here."""
+        count, state = _calls.encoder_ask(self._open(), piece, room)
+        return Asked(count, SequenceEncoder._at(state))
+
+    @classmethod
+    def _at(cls, state):
+        encoder = cls.__new__(cls)
+        encoder._state, encoder._ended = state, False
+        return encoder
 
     def finalize_into(self, out: Buffer) -> int:
         """Ends the text: writes the last byte where bits pend, with zeros behind them; the count, 0 or 1."""

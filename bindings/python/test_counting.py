@@ -35,8 +35,8 @@ def judged(state):
 
 
 def updated(state, piece):
-    """The bytes that a piece completes, and the state after it, of a sound state whose pending bits are zeros."""
-    bits = [0] * state.pending_bits
+    """The bytes that a piece completes, and the state after it, of a sound state."""
+    bits = [state.pending >> bit & 1 for bit in reversed(range(state.pending_bits))]
     for byte in taken(state.alphabet, state.fold == 1, piece):
         code = LISTS[state.alphabet].find(byte)  # -1, all ones, where there is none
         bits += [code >> bit & 1 for bit in reversed(range(BITS[state.alphabet]))]
@@ -165,9 +165,10 @@ class Forged(unittest.TestCase):
         encoder = fc.SequenceEncoder(state=state)
         self.assertEqual(answered(lambda: encoder.update(piece)), written if isinstance(written, bytes) else (written,), about)
         self.assertEqual(bytes(encoder.state), bytes(after), about)
-        raw = fc.lib.fc_encoder_update(state, piece, len(piece), ctypes.create_string_buffer(9), 9)
         count = len(written) if isinstance(written, bytes) else 0
-        self.assertEqual(bytes(raw), bytes(fc.fc_updated(refusal or too_far, count, after)), about)
+        told = bytes(fc.fc_updated(refusal or too_far, count, after))
+        self.assertEqual(bytes(fc.lib.fc_encoder_update(state, piece, len(piece), ctypes.create_string_buffer(9), 9)), told, about)
+        self.assertEqual(bytes(fc.lib.fc_encoder_ask(state, piece, len(piece), 9)), told, about)
         bad = (5, state.bad_position, state.bad_byte, state.bad_count) if state.has_bad == 1 else None
         last = (refusal,) if refusal else bad or bytes(state.pending_bits > 0)
         self.assertEqual(answered(fc.SequenceEncoder(state=state).finalize), last, about)

@@ -14,6 +14,8 @@ class Encoders(unittest.TestCase):
         yield lambda: encoder.update(b"CGT")
         yield lambda: encoder.update(b"")
         yield lambda: encoder.update_into(b"CGT", bytearray(9))
+        yield lambda: encoder.ask(b"CGT", 9)
+        yield lambda: encoder.ask(b"", 0)
         yield lambda: encoder.finalize()
         yield lambda: encoder.finalize_into(bytearray(9))
 

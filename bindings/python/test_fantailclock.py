@@ -179,6 +179,26 @@ class Worked(unittest.TestCase):
         yield written(9, in_hex, lambda out: fc.SequenceEncoder(alphabet, **choice).update_into(text(word), out))
         yield told(lambda: in_hex(fc.SequenceEncoder(alphabet, **choice).update(text(word))))
 
+    def counted(self, count, state):
+        """What the table has of an update: the count, and four numbers of the next state."""
+        return f"{count} {state.seen} {state.pending_bits} {state.pending} {state.bad_count}"
+
+    def asked_about(self, encoder, piece, room):
+        asked = encoder.ask(piece, room)
+        return self.counted(asked.count, asked.next.state)
+
+    def ask(self, alphabet, word, room, **choice):
+        """Also by the call itself, and by the update of a copy that is lent memory of that length, or of more than the text can
+        fill where the length is greater."""
+        encoder, room = fc.SequenceEncoder(alphabet, **choice), number(room)
+        state, piece = encoder.state, text(word)
+        yield told(lambda: self.asked_about(encoder, piece, room))
+        answer = fc.lib.fc_encoder_ask(state, piece, len(piece), room)
+        self.assertTrue(not answer.refusal or (answer.count, bytes(answer.next)) == (0, bytes(state)))
+        yield f"refused {answer.refusal}" if answer.refusal else self.counted(answer.count, answer.next)
+        copy = fc.SequenceEncoder(state=state)
+        yield told(lambda: self.counted(copy.update_into(piece, bytearray(min(room, 64))), copy.state))
+
     def finalize(self, alphabet, word, **choice):
         encoder = fc.SequenceEncoder(alphabet, **choice)
         encoder.update(text(word))
@@ -241,8 +261,8 @@ class Worked(unittest.TestCase):
         """The answers of a row's call, by every way to say its choice."""
         if call == "folding":
             return self.answers(*words, fold=True)
-        chosen = self.answers(call, *words, fold=False) if call in ("pack", "update", "finalize", "guess", "genome") else []
-        return self.answers(call, *words) + chosen
+        has_choice = call in ("pack", "update", "ask", "finalize", "guess", "genome")
+        return self.answers(call, *words) + (self.answers(call, *words, fold=False) if has_choice else [])
 
     def test_every_row(self):
         count, folding = 0, 0
@@ -251,7 +271,7 @@ class Worked(unittest.TestCase):
             self.assertTrue(answers, line)
             self.assertEqual(answers, [expected] * len(answers), line)
             count, folding = count + 1, folding + (words[0] == "folding")
-        self.assertEqual((count, folding), (127, 23))
+        self.assertEqual((count, folding), (147, 27))
 
     def test_names_numbers_and_bits(self):
         names = ["dna2bit", "dna3bit", "dnaio", "protein", "ASCII", "Unknown"]
@@ -510,10 +530,18 @@ class BetweenGuardPages(unittest.TestCase):
         for room in rooms(end - start):
             self.harness.check("fc_encoder_update", about, piece, room, fitting(packed[start:end], room),
                                lambda data, out: fc.SequenceEncoder(state=encoder.state).update_into(data, out))
+            nothing = 4 if room < end - start else b""  # the page that the update would be lent is not written to
+            self.harness.check("fc_encoder_ask", about, piece, room, nothing,
+                               lambda data, out: self.asked(encoder, data, len(out), end - start))
         encoder.update(piece)
         for room in rooms(len(packed) - end):
             self.harness.check("fc_encoder_finalize", about, b"", room, fitting(packed[end:], room),
                                lambda _, out: fc.SequenceEncoder(state=encoder.state).finalize_into(out))
+
+    def asked(self, encoder, data, room, count):
+        asked, copy = encoder.ask(data, room), fc.SequenceEncoder(state=encoder.state)
+        self.assertEqual((asked.count, len(copy.update(data)), bytes(asked.next.state)), (count, count, bytes(copy.state)))
+        return 0
 
     def window(self, alphabet, file, lent, window):
         (first, last), (start, end) = lent, window
@@ -598,6 +626,7 @@ class BetweenGuardPages(unittest.TestCase):
             "write to the input": lambda: ctypes.memset(source, 0, 1),
             "a text too long": lambda: fc.lib.fc_encode_sequence(4, 1, source, 9, guarded.page, PAGE),
             "memory too long": lambda: fc.lib.fc_encode_sequence(4, 1, nine, 9, out, 9),
+            "a piece too long to be asked about": lambda: fc.lib.fc_encoder_ask(fc.fc_encoder(), source, 9, 9),
         }
         for what, trespass in trespasses.items():
             self.assertEqual(self.child(trespass), signal.SIGSEGV, what)

@@ -82,6 +82,9 @@ class Names(unittest.TestCase):
         self.assertEqual(fc.guess_genome(chromosomes=[b"ACGT", b"acgn"], fold=True), Alphabet.Dna3bit)
         self.assertEqual(list(inspect.signature(fc.later_alphabet).parameters), ["one", "other"])
         self.assertEqual(fc.later_alphabet(one=Alphabet.Ascii, other=1), Alphabet.Ascii)
+        self.assertEqual(list(inspect.signature(fc.SequenceEncoder.ask).parameters), ["self", "piece", "room"])
+        self.assertEqual(fc.SequenceEncoder(0).ask(piece=b"ACGT", room=1).count, 1)
+        self.assertEqual(fc.Asked._fields, ("count", "next"))
 
 
 if __name__ == "__main__":

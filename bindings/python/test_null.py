@@ -50,6 +50,12 @@ class Null(unittest.TestCase):
         for alphabet in Alphabet:
             self.same("fc_display_name", 4, 0, first=[alphabet], source=None)
 
+    def asked(self, state):
+        """An empty piece, asked about: nothing is needed for it, and the state stays."""
+        self.entries.add("fc_encoder_ask")
+        for address, room in itertools.product(addresses(), (0, 9, (1 << 64) - 1)):
+            self.assertEqual(bytes(lib.fc_encoder_ask(state, address, 0, room)), bytes(fc.fc_updated(0, 0, state)))
+
     def test_packing(self):
         for alphabet, fold in itertools.product(Alphabet, (0, 1)):
             state = lib.fc_encoder_new(alphabet, fold).next
@@ -61,9 +67,11 @@ class Null(unittest.TestCase):
             self.same("fc_encoder_update", 0, 0, first=[state], room=9)
             self.same("fc_encoder_update", 4, 0, first=[state], source=b"ACGT")
             self.assertEqual(bytes(self.last.next), bytes(state))
+            self.asked(state)
             self.same("fc_encoder_finalize", 0, 0, 0, 0, 0, first=[state], source=None)
             if alphabet.bits_per_symbol < 8:
                 pending = lib.fc_encoder_update(state, b"A", 1, None, 0).next
+                self.asked(pending)
                 self.same("fc_encoder_finalize", 4, 0, 0, 0, 0, first=[pending], source=None)
                 strange = lib.fc_encoder_update(pending, b"{", 1, ctypes.create_string_buffer(1), 1).next
                 self.same("fc_encoder_finalize", 5, 0, 1, ord("{"), 1, first=[strange], source=None)

@@ -56,6 +56,8 @@ class Numbers(unittest.TestCase):
             self.assertEqual(fc.encode_sequence(n(1), b"ACGTNRYU"), PACKED)
             self.assertEqual(fc.encode_sequence_into(n(1), b"ACGTNRYU", bytearray(3)), 3)
             encoder = fc.SequenceEncoder(n(1))
+            self.assertEqual([encoder.ask(b"ACGTNRYU", n(room)).count for room in (3, 200)], [3, 3])
+            self.assertRaises(fc.ShortMemory, encoder.ask, b"ACGTNRYU", n(2))
             self.assertEqual(encoder.update(b"ACGTNRYU") + encoder.finalize(), PACKED)
             self.assertTrue(Alphabet.Dna3bit.contains(n(ord("N"))))
             self.assertEqual(fc.later_alphabet(n(1), n(3)), Alphabet.Protein)
@@ -105,6 +107,8 @@ class Numbers(unittest.TestCase):
             self.assertRaises(error, Alphabet.Dna2bit.contains, wrong)
             self.assertRaises(error, fc.later_alphabet, wrong, 1)
             self.assertRaises(error, fc.later_alphabet, 1, wrong)
+            for encoder in fc.SequenceEncoder(0), fc.SequenceEncoder(state=fc.fc_encoder(6)):  # before the state is asked about
+                self.assertRaises(error, encoder.ask, b"ACGT", wrong)
 
     def test_an_index_that_fails(self):
         class Fails:
@@ -114,6 +118,7 @@ class Numbers(unittest.TestCase):
         self.assertRaises(ZeroDivisionError, fc.decode_covered, 1, PACKED, 0, 2, Fails())
         self.assertRaises(ZeroDivisionError, fc.byte_range_for_bases, Fails(), 2, 2)
         self.assertRaises(ZeroDivisionError, fc.later_alphabet, 6, Fails())
+        self.assertRaises(ZeroDivisionError, fc.SequenceEncoder(0).ask, "ACGT", Fails())
 
 
 class Memory(unittest.TestCase):
@@ -132,6 +137,7 @@ class Memory(unittest.TestCase):
             self.assertRaises(error, fc.encode_sequence, 0, wrong)
             self.assertRaises(error, fc.decode_covered, 0, wrong, 0, 0, 1)
             self.assertRaises(error, fc.SequenceEncoder(0).update, wrong)
+            self.assertRaises(error, fc.SequenceEncoder(0).ask, wrong, 9)
             self.assertRaises(error, fc.Guesser().update, wrong)
             self.assertRaises(error, fc.Stream(0, 0, 4).read, wrong, bytearray(4))
         for wrong in b"....", memoryview(b"...."), memoryview(bytearray(9))[::2]:
@@ -177,6 +183,8 @@ class Memory(unittest.TestCase):
             lambda: fc.decode_covered_into(0, source, 0, 0, 9, out),
             lambda: fc.SequenceEncoder(0).update(source),
             lambda: fc.SequenceEncoder(0).update_into(source, out),
+            lambda: fc.SequenceEncoder(0).ask(source, 9),
+            lambda: fc.SequenceEncoder(0).ask(source, 0),
             lambda: fc.Stream(0, 0, 4).read(source, out),
             lambda: fc.Stream(0, 0, 4).read(source, source),
         ):
@@ -258,6 +266,12 @@ class Kept(unittest.TestCase):
             ("encoder_update", (state, source)),
             ("encoder_update_into", (state, source, out)),
             ("encoder_update_into", (state, source, source)),
+            ("encoder_ask", (state, source, number)),
+            ("encoder_ask", (state, source, 9)),
+            ("encoder_ask", (strange, source, Index(1 << 63))),
+            ("encoder_ask", (state, source, Index(-1))),
+            ("encoder_ask", (state, "ACGT", number)),
+            ("encoder_ask", (b"", source, number)),
             ("encoder_finalize", (state,)),
             ("encoder_finalize", (strange,)),
             ("encoder_finalize_into", (strange, out)),
@@ -303,8 +317,8 @@ class Alike(unittest.TestCase):
     SHAPES = {
         "bits_per_symbol": "n", "contains": "nn", "display_name": "n", "guess_alphabet": "bm", "later_alphabet": "nn", "guesser_new": "b",
         "guesser_update": "gm", "guesser_guess": "g", "encode_sequence": "nbm", "encode_sequence_into": "nbmo",
-        "encoder_new": "nb", "encoder_update": "em", "encoder_update_into": "emo", "encoder_finalize": "e",
-        "encoder_finalize_into": "eo", "byte_range_for_bases": "nnn", "stream_new": "nnn", "stream_read": "smn",
+        "encoder_new": "nb", "encoder_update": "em", "encoder_update_into": "emo", "encoder_ask": "emn",
+        "encoder_finalize": "e", "encoder_finalize_into": "eo", "byte_range_for_bases": "nnn", "stream_new": "nnn", "stream_read": "smn",
         "stream_read_into": "smo", "stream_end": "s", "decode_substring_from_bytes_at_offset": "nmnnn",
         "decode_substring_from_bytes": "nmnn", "decode_string_from_bytes": "nmn", "decode_covered": "nmnnn",
         "decode_rolling": "nmnnn", "decode_2bit": "mnnn", "decode_3bit": "mnnn",
@@ -417,6 +431,7 @@ class Alike(unittest.TestCase):
         for short in b"", bytes(39), bytes(41):
             self.assertRaises(ValueError, fc._calls.stream_end, short)
             self.assertRaises(ValueError, fc._calls.encoder_finalize, short)
+            self.assertRaises(ValueError, fc._calls.encoder_ask, short, b"", 0)
 
 
 class Found(unittest.TestCase):
@@ -456,17 +471,18 @@ class Found(unittest.TestCase):
 
     def test_an_object_that_is_older_than_a_function(self):
         """A function that is only added does not raise the version; without it the module is not imported, and says why."""
-        with tempfile.TemporaryDirectory() as elsewhere:
-            shutil.copy(fc.__file__, elsewhere)
-            self.without(fc.lib._name, elsewhere, "fc_later_alphabet")
-            wanted = "^ImportError: .*/libfantailclock.so lacks fc_later_alphabet: it is older than this module; make it with "
-            self.assertRegex(self.imported(elsewhere), wanted)
-            shutil.copy(fc.lib._name, elsewhere)
-            self.assertEqual(self.imported(elsewhere), "Dna3bit ctypes")
-            if fc.WAY == "extension":
-                self.without(fc._calls.__file__, elsewhere, "later_alphabet")
-                self.assertRegex(self.imported(elsewhere), "^ImportError: .*/_fantailclock.* lacks later_alphabet: it is older")
-                self.assertEqual(self.imported(elsewhere, FANTAILCLOCK_WAY="ctypes"), "Dna3bit ctypes")
+        for name in "later_alphabet", "encoder_ask":
+            with tempfile.TemporaryDirectory() as elsewhere:
+                shutil.copy(fc.__file__, elsewhere)
+                self.without(fc.lib._name, elsewhere, f"fc_{name}")
+                wanted = f"^ImportError: .*/libfantailclock.so lacks fc_{name}: it is older than this module; make it with "
+                self.assertRegex(self.imported(elsewhere), wanted)
+                shutil.copy(fc.lib._name, elsewhere)
+                self.assertEqual(self.imported(elsewhere), "Dna3bit ctypes")
+                if fc.WAY == "extension":
+                    self.without(fc._calls.__file__, elsewhere, name)
+                    self.assertRegex(self.imported(elsewhere), f"^ImportError: .*/_fantailclock.* lacks {name}: it is older")
+                    self.assertEqual(self.imported(elsewhere, FANTAILCLOCK_WAY="ctypes"), "Dna3bit ctypes")
 
     def test_an_object_of_another_version(self):
         """Its version is told, whatever else it lacks; what has none at all is no such object."""

@@ -42,6 +42,7 @@ def calls(fc):
         "byte range": lambda: fc.byte_range_for_bases(50, 150, 2),
         "packing of 100 bases": lambda: fc.encode_sequence(0, text),
         "update with 100 bases": lambda: encoder.update(text),
+        "the same asked about": lambda: encoder.ask(text, 100),
         "guess of 100 bases": lambda: fc.guess_alphabet(text),
         "ctypes alone, no argument": fc.lib.fc_abi_version,
         "ctypes alone, the window's arguments": lambda: fc.lib.fc_decode_covered(0, packed, 2500, 0, 50, 150, None, 0),

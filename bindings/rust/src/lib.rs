@@ -4,6 +4,7 @@
 //! - [`guess_genome`] and [`Alphabet::later`]: a genome's alphabet out of its chromosomes' guesses.
 //! - [`Folding`]: whether who guesses or packs takes lowercase letters for uppercase ones.
 //! - [`encode_sequence`] and [`SequenceEncoder`]: packing, whole or in pieces.
+//! - [`SequenceEncoder::ask`]: what an update would do, before memory is lent for it.
 //! - [`byte_range_for_bases`] and [`decode_covered`]: the bytes to fetch for a window, and its bases.
 //! - [`StreamingDecoder`] and [`Stream`]: a window from bytes as they come.
 //!
@@ -46,7 +47,7 @@ mod windows;
 
 pub use alphabet::{guess_alphabet, guess_genome, Alphabet, Folding, Guesser};
 pub use error::{Error, Result};
-pub use packing::{byte_range_for_bases, encode_sequence, encode_sequence_into, FinalizeError, SequenceEncoder};
+pub use packing::{byte_range_for_bases, encode_sequence, encode_sequence_into, Asked, FinalizeError, SequenceEncoder};
 pub use streaming::{Status, Stream, Streamed, StreamingDecoder};
 pub use windows::*;
 

@@ -47,7 +47,8 @@ pub fn encode_sequence(alphabet: Alphabet, folding: Folding, text: &[u8]) -> Res
 /// `finalize`, with the position of the first and the number of all of them, over all pieces. A refused `update` leaves
 /// the encoder as it was: its piece is not counted.
 ///
-/// `finalize` ends the text and takes the encoder; a refused one hands it back ([`FinalizeError`]).
+/// `finalize` ends the text and takes the encoder; a refused one hands it back ([`FinalizeError`]). What an `update` would do
+/// can be asked before memory is lent for it ([`ask`](SequenceEncoder::ask)).
 ///
 /// ```
 /// use fantailclock::{Alphabet, Folding, SequenceEncoder};
@@ -120,6 +121,41 @@ impl SequenceEncoder {
         Ok(answer.count as usize)
     }
 
+    /// What [`update_into`](SequenceEncoder::update_into) would answer with output memory of `room` bytes, which is a number
+    /// here: the count and the next state, or the refusal. No memory is lent, nothing is written, and the encoder stays as
+    /// it is.
+    ///
+    /// It is for a scheduler, which wants to know what a piece needs before it lends a page. With room 0
+    /// [`Error::ShortMemory`] tells that the piece needs a page at all: it completes a byte. With `usize::MAX` that refusal
+    /// never comes, and the count is how many bytes the update will use: lent so many or more it is accepted with the same
+    /// count and the same next state, lent fewer it is refused. Non-members of the piece are counted in the next state and
+    /// refuse nothing here.
+    ///
+    /// ```
+    /// use fantailclock::{Alphabet, Error, Folding, SequenceEncoder};
+    ///
+    /// let mut encoder = SequenceEncoder::new(Alphabet::Dna2bit, Folding::Off);
+    /// assert_eq!(encoder.ask(b"ACG", 0)?.count, 0); // six bits: no page is needed
+    /// encoder.update_into(b"ACG", &mut [])?;
+    ///
+    /// let piece = b"TACGTN";
+    /// assert_eq!(encoder.ask(piece, 0), Err(Error::ShortMemory)); // a page is needed
+    /// let asked = encoder.ask(piece, usize::MAX)?;
+    /// assert_eq!((asked.count, asked.next.to_raw().bad_count), (2, 1)); // two bytes of it; N is no member
+    ///
+    /// let mut page = vec![0; asked.count];
+    /// assert_eq!(encoder.update_into(piece, &mut page)?, asked.count);
+    /// assert_eq!(page, [0x9C, 0x9C]);
+    /// assert_eq!(encoder, asked.next);
+    /// # Ok::<(), Error>(())
+    /// ```
+    pub fn ask(&self, piece: &[u8], room: usize) -> Result<Asked> {
+        // SAFETY: the piece is lent with its length.
+        let answer = unsafe { raw::fc_encoder_ask(self.state, piece.as_ptr(), piece.len(), room as u64) };
+        accepted(answer.refusal)?;
+        Ok(Asked { count: answer.count as usize, next: SequenceEncoder { state: answer.next } })
+    }
+
     /// Packs a piece behind what pends and gives the bytes that it completes.
     pub fn update(&mut self, piece: &[u8]) -> Result<Vec<u8>> {
         let bits = Alphabet::try_from(self.state.alphabet).map_or(0, Alphabet::bits_per_symbol); // of none: refused
@@ -157,6 +193,16 @@ impl SequenceEncoder {
         let count = self.finalize_into(&mut last)?;
         Ok(last[..count].to_vec())
     }
+}
+
+/// What an `update` would do: the answer of [`SequenceEncoder::ask`].
+#[derive(Clone, Debug, PartialEq, Eq)]
+pub struct Asked {
+    /// The bytes that the update would write.
+    pub count: usize,
+    /// The encoder as it would be after it. Whoever goes on from it must have made the update too, unless the count is 0: the
+    /// bytes are nowhere else.
+    pub next: SequenceEncoder,
 }
 
 /// A `finalize` that was refused: why, and the encoder as it was.

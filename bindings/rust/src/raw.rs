@@ -76,6 +76,7 @@ extern "C" {
 
     pub fn fc_encoder_new(alphabet: u64, fold: u64) -> EncoderStarted;
     pub fn fc_encoder_update(state: Encoder, piece: *const u8, len: usize, out: *mut u8, room: usize) -> Updated;
+    pub fn fc_encoder_ask(state: Encoder, piece: *const u8, len: usize, room: u64) -> Updated;
     pub fn fc_encoder_finalize(state: Encoder, out: *mut u8, room: usize) -> Packed;
     pub fn fc_encode_sequence(alphabet: u64, fold: u64, text: *const u8, len: usize, out: *mut u8, room: usize) -> Packed;
     pub fn fc_byte_range_for_bases(start: u64, end: u64, bits: u64) -> Range;

@@ -121,6 +121,7 @@ fn strange_pieces(
                 answer
             },
         });
+        asked(harness, &SequenceEncoder::from_raw(begun), piece, room);
     }
     for room in [0, 1] {
         harness.check(&Case {
@@ -132,6 +133,23 @@ fn strange_pieces(
             call: &|_, out| Ok(SequenceEncoder::from_raw(next).finalize_into(out)?),
         });
     }
+}
+
+/// An update asked about, with the page at hand that it would be lent: no byte of that is written.
+fn asked(harness: &mut Harness, encoder: &SequenceEncoder, piece: &[u8], room: usize) {
+    let expected = model::answered(&encoder.to_raw(), piece, room as u64);
+    harness.check(&Case {
+        entry: "fc_encoder_ask",
+        about: format!("{encoder:?}, {} bytes", piece.len()),
+        input: piece,
+        room,
+        expected: expected.as_ref().map(|_| vec![]).map_err(|refusal| *refusal),
+        call: &|piece, out| {
+            let answer = encoder.ask(piece, out.len()).map(|asked| (asked.count, asked.next.to_raw()));
+            assert_eq!(answer, expected.as_ref().map(|(bytes, next)| (bytes.len(), *next)).map_err(|refusal| *refusal));
+            answer.map(|_| 0)
+        },
+    });
 }
 
 /// An update behind so many symbols, and the last byte after it.
@@ -151,6 +169,7 @@ fn pieces(harness: &mut Harness, alphabet: Alphabet, folding: Folding, text: &[u
             expected: fitting(&packed[from..to], room),
             call: &|piece, out| encoder.clone().update_into(piece, out),
         });
+        asked(harness, &encoder, piece, room);
     }
     encoder.update(piece).unwrap();
     for room in rooms(packed.len() - to) {
@@ -358,8 +377,15 @@ fn no_entry_point_is_left_out() {
 }
 
 /// What each child does; every one of them must be stopped.
-const TRESPASSES: [&str; 6] =
-    ["read behind", "read before", "write behind", "write to the input", "a text too long", "memory too long"];
+const TRESPASSES: [&str; 7] = [
+    "read behind",
+    "read before",
+    "write behind",
+    "write to the input",
+    "a text too long",
+    "memory too long",
+    "a piece too long to be asked about",
+];
 
 fn trespass(what: &str) {
     let mut guarded = Guarded::new();
@@ -375,6 +401,9 @@ fn trespass(what: &str) {
             "write to the input" => (text.as_ptr() as *mut u8).write_volatile(0),
             "a text too long" => _ = raw::fc_encode_sequence(4, 0, text.as_ptr(), 9, front, 4096),
             "memory too long" => _ = raw::fc_encode_sequence(4, 0, b"ACGTACGTA".as_ptr(), 9, back, 9),
+            "a piece too long to be asked about" => {
+                _ = raw::fc_encoder_ask(raw::Encoder::default(), text.as_ptr(), 9, u64::MAX)
+            }
             other => panic!("no such trespass: {other}"),
         }
     }

@@ -58,6 +58,9 @@ fn packing() {
                 let same = raw::Updated { refusal: 0, count: 0, next: state };
                 assert_eq!(unsafe { raw::fc_encoder_update(state, from, 0, to, 0) }, same);
                 assert_eq!(unsafe { raw::fc_encoder_update(state, from, 0, memory.as_mut_ptr(), 9) }, same);
+                for room in [0, 9, u64::MAX] {
+                    assert_eq!(unsafe { raw::fc_encoder_ask(state, from, 0, room) }, same);
+                }
             }
             assert_eq!(unsafe { raw::fc_encode_sequence(number, fold, b"A".as_ptr(), 1, to, 0) }, packed(4));
             assert_eq!(unsafe { raw::fc_encoder_update(state, b"ACGT".as_ptr(), 4, to, 0) }.refusal, 4);
@@ -65,6 +68,10 @@ fn packing() {
             let pending = unsafe { raw::fc_encoder_update(state, b"A".as_ptr(), 1, memory.as_mut_ptr(), 9) }.next;
             let refusal = if pending.pending_bits > 0 { 4 } else { 0 };
             assert_eq!(unsafe { raw::fc_encoder_finalize(pending, to, 0) }, packed(refusal));
+            for from in sources() {
+                let same = raw::Updated { refusal: 0, count: 0, next: pending };
+                assert_eq!(unsafe { raw::fc_encoder_ask(pending, from, 0, 0) }, same, "behind bits that pend");
+            }
             memory = PATTERN;
         }
     }
@@ -165,5 +172,5 @@ fn no_entry_point_is_left_out() {
         assert!(this.contains(&format!("raw::{entry}")), "{entry} is not called with null");
         found += 1;
     }
-    assert_eq!(found, 14);
+    assert_eq!(found, 15);
 }

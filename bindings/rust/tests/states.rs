@@ -161,14 +161,10 @@ fn forged(alphabet: Alphabet, fold: u64, seen: u64) -> Vec<raw::Encoder> {
     states
 }
 
-/// `update` of a state by a piece: number for number the model's answer.
+/// `update` of a state by a piece, asked about and then made: number for number the model's answer.
 fn updated(harness: &mut Harness, state: raw::Encoder, piece: &[u8]) {
-    let too_far = if state.seen + piece.len() as u64 > 1 << 60 { Err(Error::TooFar) } else { Ok(()) };
-    let answer = model::judged(&state).and(too_far).map(|()| model::updated(&state, piece));
-    let told = match &answer {
-        Ok((written, next)) => raw::Updated { refusal: 0, count: written.len() as u64, next: *next },
-        Err(refusal) => raw::Updated { refusal: refusal.number(), count: 0, next: state },
-    };
+    let answer = model::answered(&state, piece, 9);
+    let told = model::told(&state, &answer);
     harness.check(&Case {
         entry: "fc_encoder_update",
         about: format!("{state:?}"),
@@ -176,6 +172,8 @@ fn updated(harness: &mut Harness, state: raw::Encoder, piece: &[u8]) {
         room: 9,
         expected: answer.map(|(written, _)| written),
         call: &|piece, out| {
+            let asked = unsafe { raw::fc_encoder_ask(state, piece.as_ptr(), piece.len(), 9) };
+            assert_eq!(asked, told, "{state:?}");
             let answer = unsafe { raw::fc_encoder_update(state, piece.as_ptr(), piece.len(), out.as_mut_ptr(), 9) };
             assert_eq!(answer, told, "{state:?}");
             SequenceEncoder::from_raw(state).update_into(piece, out)

@@ -36,6 +36,31 @@ fn update(alphabet: Alphabet, folding: Folding, words: &[&'static str]) -> Vec<S
     vec![lent, hex(&SequenceEncoder::new(alphabet, folding).update(text(words[0])).unwrap())]
 }
 
+/// What the table has of an update: the count, and four numbers of the next state.
+fn counted(count: u64, next: raw::Encoder) -> String {
+    format!("{count} {} {} {} {}", next.seen, next.pending_bits, next.pending, next.bad_count)
+}
+
+/// By the safe function, by the call itself, and by the update of a copy that is lent memory of that length, or of more than
+/// the text can fill where the length is greater.
+fn ask(alphabet: Alphabet, folding: Folding, words: &[&'static str]) -> Vec<String> {
+    let (text, room, encoder) = (text(words[0]), number(words[1]), SequenceEncoder::new(alphabet, folding));
+    let asked = encoder.ask(text, room as usize);
+    let answer = unsafe { raw::fc_encoder_ask(encoder.to_raw(), text.as_ptr(), text.len(), room) };
+    let told = match answer.refusal {
+        0 => counted(answer.count, answer.next),
+        refusal => format!("refused {refusal}"),
+    };
+    assert!(answer.refusal == 0 || (answer.count, answer.next) == (0, encoder.to_raw()), "{answer:?}");
+    let mut copy = encoder.clone();
+    let made = copy.update_into(text, &mut vec![0; room.min(64) as usize]);
+    vec![
+        asked.map_or_else(refused, |asked| counted(asked.count as u64, asked.next.to_raw())),
+        told,
+        made.map_or_else(refused, |count| counted(count as u64, copy.to_raw())),
+    ]
+}
+
 fn finalize(alphabet: Alphabet, folding: Folding, words: &[&'static str]) -> Vec<String> {
     let mut encoder = SequenceEncoder::new(alphabet, folding);
     encoder.update(text(words[0])).unwrap();
@@ -149,6 +174,7 @@ fn answers(words: &[&'static str]) -> Vec<String> {
     match (words[0], folding) {
         ("pack", _) => each(arguments, |alphabet, words| pack(alphabet, folding, words)),
         ("update", _) => each(arguments, |alphabet, words| update(alphabet, folding, words)),
+        ("ask", _) => each(arguments, |alphabet, words| ask(alphabet, folding, words)),
         ("finalize", _) => each(arguments, |alphabet, words| finalize(alphabet, folding, words)),
         ("guess", _) => guess(folding, arguments),
         ("genome", _) => genome(folding, arguments),
@@ -165,7 +191,7 @@ fn answers(words: &[&'static str]) -> Vec<String> {
 /// Asks every row and compares.
 fn check_table() {
     let rows = rows(WORKED);
-    assert_eq!(rows.len(), 29 + 14 + 13 + 17 + 54);
+    assert_eq!(rows.len(), 29 + 14 + 13 + 17 + 54 + 20);
     for row in rows {
         let answers = answers(&row.words);
         assert!(!answers.is_empty(), "asked of nothing: {}", row.line);

@@ -110,6 +110,28 @@ pub fn updated(state: &raw::Encoder, piece: &[u8]) -> (Vec<u8>, raw::Encoder) {
     (written, next)
 }
 
+/// What the rules answer to a piece with output memory of `room` bytes, whether it is packed or only asked about: question by
+/// question, then the bytes that a packing writes and the next state.
+pub fn answered(state: &raw::Encoder, piece: &[u8], room: u64) -> Result<(Vec<u8>, raw::Encoder)> {
+    judged(state)?;
+    if state.seen + piece.len() as u64 > 1 << 60 {
+        return Err(Error::TooFar);
+    }
+    let (written, next) = updated(state, piece);
+    if written.len() as u64 > room {
+        return Err(Error::ShortMemory);
+    }
+    Ok((written, next))
+}
+
+/// The same as the C ABI tells it: on a refusal no count, and the state that was handed in.
+pub fn told(state: &raw::Encoder, answer: &Result<(Vec<u8>, raw::Encoder)>) -> raw::Updated {
+    match answer {
+        Ok((written, next)) => raw::Updated { refusal: 0, count: written.len() as u64, next: *next },
+        Err(refusal) => raw::Updated { refusal: refusal.number(), count: 0, next: *state },
+    }
+}
+
 /// The codes of the bases from `start` to `end` of a file of which `bytes` are those from `offset` on; other bytes are zero.
 pub fn codes(alphabet: Alphabet, bytes: &[u8], offset: u64, start: u64, end: u64) -> Vec<usize> {
     let width = bits(alphabet);
