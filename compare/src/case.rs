@@ -12,11 +12,20 @@ pub enum Layer {
     Ending,
     /// Guesses combined.
     Genome,
+    /// The encoder asked before it packs.
+    Asking,
 }
 
 impl Layer {
-    pub const ALL: [Layer; 6] =
-        [Layer::Alphabet, Layer::Packing, Layer::Windows, Layer::Streaming, Layer::Ending, Layer::Genome];
+    pub const ALL: [Layer; 7] = [
+        Layer::Alphabet,
+        Layer::Packing,
+        Layer::Windows,
+        Layer::Streaming,
+        Layer::Ending,
+        Layer::Genome,
+        Layer::Asking,
+    ];
 }
 
 /// What an entry point takes and answers, as names.
@@ -51,8 +60,16 @@ macro_rules! entries {
     };
 }
 
+macro_rules! encoder {
+    () => {
+        "alphabet seen pending_bits pending has_bad bad_position bad_byte fold bad_count"
+    };
+}
+
 const GUESSER: &str = "mask fold";
-const ENCODER: &str = "alphabet seen pending_bits pending has_bad bad_position bad_byte fold bad_count";
+const ENCODER: &str = encoder!();
+/// A state, and the length of the output memory that an update would be lent.
+const ASKED: &str = concat!(encoder!(), " room");
 const PACKED: &str = "refusal count position byte bad_count";
 const STREAM: &str = "alphabet skip budget pending_bits pending";
 const WINDOW: &str = "alphabet byte_offset start end";
@@ -90,6 +107,9 @@ entries! {
 
     LaterAlphabet: "later_alphabet" Genome ("one other"; "") -> ("refusal value"; ""),
     GenomeList: "(list) genome" Genome ("fold order brackets"; "text") -> ("refusal value"; ""),
+
+    EncoderAsk: "encoder_ask" Asking (ASKED; "piece") -> ("refusal count"; ENCODER),
+    AskList: "(list) asks" Asking (ENCODER; "text") -> ("refusal count"; ENCODER),
 }
 
 impl Shape {
@@ -100,7 +120,7 @@ impl Shape {
 }
 
 /// One call of a list: an update or a read with the next `length` bytes, or, if `last`, the call that may end the list. Of a
-/// genome it is the guess of a chromosome, that of the next `length` bytes.
+/// genome it is the guess of a chromosome, that of the next `length` bytes; of asks an update and all that is asked about it.
 #[derive(Clone, Copy, PartialEq, Debug)]
 pub struct Step {
     pub length: usize,
@@ -108,8 +128,9 @@ pub struct Step {
     pub last: bool,
 }
 
-/// The numbers of a call: as many as an encoder's state has, which has the most.
-pub type Numbers = [u64; 9];
+/// The numbers of a call: as many as an ask has, which has the most. The first nine are an encoder's state, where the call
+/// gets one.
+pub type Numbers = [u64; 10];
 
 #[derive(Clone, PartialEq)]
 pub struct Call {
@@ -127,6 +148,11 @@ impl Call {
         let mut numbers = Numbers::default();
         numbers[..given.len()].copy_from_slice(given);
         Call { entry, numbers, text: Vec::new(), room: 0, steps: Vec::new() }.settled()
+    }
+
+    /// An ask about a piece and memory of `room` bytes, from an encoder's state.
+    pub fn ask(state: &[u64], piece: &[u8], room: u64) -> Call {
+        Call::new(Entry::EncoderAsk, &[&state[..9], &[room]].concat()).text(piece)
     }
 
     pub fn text(mut self, text: &[u8]) -> Call {

@@ -2,7 +2,7 @@
 //! the comparison would notice. A fault changes what goes in (`call`) or what comes out (`answer`); of a genome it may change
 //! what a host makes of the chromosomes' guesses (`guesses`).
 
-use crate::case::{Call, Entry, Layer, Numbers};
+use crate::case::{Call, Entry, Layer, Memory, Numbers};
 use crate::model::{self, Intake, DONE, FULL, HUNGRY, LIMIT};
 
 macro_rules! faults {
@@ -169,6 +169,39 @@ faults! {
     FirstFolded Genome "the first chromosome is folded where the others are not",
     LastUnfolded Genome "the last chromosome is not folded where the others are",
     ChromosomeEndLost Genome "the last byte of a chromosome is not looked at",
+
+    AskWithoutMemory Asking "an ask with no memory is refused by 4, though the piece completes no byte",
+    AskOneTooFew Asking "an ask takes memory that is one byte too short",
+    AskJustEnough Asking "an ask refuses memory that is just enough",
+    AskNarrowed Asking "an ask narrows the length of memory to 32 bits",
+    AskSigned Asking "an ask takes a length of memory from 2^63 on for a negative one",
+    AskLimitsMemory Asking "an ask refuses a length of memory above 2^60 by 2",
+    AskMemoryBeforeLimit Asking "an ask asks 9 before 5",
+    AskMemoryBeforeState Asking "an ask asks 9 before 4",
+    AskUnsound Asking "an ask takes an unsound state",
+    AskLimit Asking "an ask about a piece that reaches 2^60 is refused",
+    AskAlphabetNarrowed Asking "an ask takes alphabet 256 for 0",
+    AskMember Asking "an ask refuses a piece with a non-member by 5",
+    AskRefusedNext Asking "an ask refused by 4 tells the next state",
+    AskRefusedCount Asking "an ask refused by 4 tells how many bytes are needed",
+    AskRefusedZeroes Asking "a refused ask hands back zeros",
+    AskBefore Asking "an ask tells the state before the piece as the next",
+    AskPendingStays Asking "an ask tells the bits that pended before the piece",
+    AskPendingZero Asking "an ask tells a pending value of 0",
+    AskPendingFirst Asking "an ask takes the pending bits from the first symbols of the piece",
+    AskPendingUnjoined Asking "an ask does not join the bits of a piece that completes no byte with those before it",
+    AskPieceAlone Asking "an ask counts the bytes of the piece without the bits before it",
+    AskRoundedUp Asking "an ask counts the byte that finalize would write",
+    AskCountsMemory Asking "an ask tells the length of memory in the count's place",
+    AskBlind Asking "an ask does not look for non-members",
+    AskCountsFirst Asking "an ask counts the first non-member of a piece alone",
+    AskCountsAnew Asking "an ask counts the non-members of the piece alone",
+    AskPiecePosition Asking "an ask counts a position from the piece's start",
+    AskForgets Asking "an ask forgets the choice",
+    AskUnchosen Asking "an ask keeps the choice and does not fold",
+    AskFirstChunk Asking "an ask looks for non-members in the first 4,096 bytes alone",
+    UpdateWantsMore Asking "an update refuses the memory that an ask tells to be just enough",
+    UpdateLeavesOther Asking "an update leaves another bit pending than an ask tells",
 }
 
 impl Fault {
@@ -179,6 +212,7 @@ impl Fault {
         let text = &mut wrong.text;
         let two_bit = call.alphabet() == Some(0) && !text.is_empty();
         match (self, call.entry) {
+            (_, Entry::EncoderAsk) => self.asking(&mut wrong),
             // S has the mask of U without Dna3bit's bit.
             (Fault::MaskEntryOff, _) => text.iter_mut().filter(|byte| **byte == b'U').for_each(|byte| *byte = b'S'),
             (Fault::MaskNarrowed, Entry::GuesserUpdate | Entry::GuesserGuess) => numbers[0] &= 0xFF,
@@ -225,7 +259,7 @@ impl Fault {
 
     /// The count for which such a port takes that of a state.
     fn believed(self, state: &Numbers) -> u64 {
-        let [_, seen, _, _, has_bad, position, .., count] = *state;
+        let [_, seen, _, _, has_bad, position, _, _, count, _] = *state;
         let most = seen.saturating_sub(position);
         match (self, has_bad) {
             (Fault::CountNarrowed, _) => count & 0xFFFF_FFFF,
@@ -288,6 +322,7 @@ impl Fault {
             Layer::Windows => self.windows(call, before, words, out),
             Layer::Streaming | Layer::Ending => self.streaming(call, words),
             Layer::Genome => self.combining(call, words),
+            Layer::Asking => self.foretelling(call, words),
         }
     }
 
@@ -312,7 +347,7 @@ impl Fault {
     }
 
     fn packing(self, call: &Call, before: &[u8], words: &mut [u64], out: &mut [u8]) {
-        let [_, seen, pending_bits, _, has_bad, position, _, _, count] = call.numbers;
+        let [_, seen, pending_bits, _, has_bad, position, _, _, count, _] = call.numbers;
         let stranger = model::first_stranger(intake(call), &call.text);
         let strangers = model::strangers(intake(call), &call.text);
         match (self, call.entry, stranger) {
@@ -354,13 +389,25 @@ impl Fault {
             _ => {
                 self.choosing(call, words);
                 self.counting(call, words);
+                self.unforetold(call, before, words, out);
             }
+        }
+    }
+
+    /// What a port whose update is not what its ask tells makes of an update's answer.
+    fn unforetold(self, call: &Call, before: &[u8], words: &mut [u64], out: &mut [u8]) {
+        match (self, call.entry) {
+            (Fault::UpdateWantsMore, Entry::EncoderUpdate) if words[0] == 0 && words[1] as usize == out.len() => {
+                refuse(4, call, before, words, out)
+            }
+            (Fault::UpdateLeavesOther, Entry::EncoderUpdate) if words[0] == 0 && words[4] > 0 => words[5] ^= 1,
+            _ => {}
         }
     }
 
     /// What a port whose count of non-members has this fault makes of an answer of packing.
     fn counting(self, call: &Call, words: &mut [u64]) {
-        let [_, _, _, _, has_bad, .., count] = call.numbers;
+        let [_, _, _, _, has_bad, _, _, _, count, _] = call.numbers;
         match (self, call.entry, words[0]) {
             (Fault::CountAnew, Entry::EncoderUpdate, 0) => words[10] -= count,
             (Fault::CountStays, Entry::EncoderUpdate, 0) => words[10] = words[6],
@@ -408,7 +455,7 @@ impl Fault {
 
     /// What a port whose folding has this fault makes of an answer of packing.
     fn choosing(self, call: &Call, words: &mut [u64]) {
-        let [alphabet, second, .., fold, _] = call.numbers;
+        let [alphabet, second, _, _, _, _, _, fold, ..] = call.numbers;
         let mut none = 0;
         let reported = match call.entry {
             Entry::EncodeSequence if words[0] == 5 && call.folds() => &mut words[3],
@@ -589,6 +636,82 @@ impl Fault {
         words.copy_from_slice(&told);
     }
 
+    /// What a port whose ask has this fault makes of its input.
+    fn asking(self, call: &mut Call) {
+        let intake = intake(call);
+        let [alphabet, _, _, _, _, _, _, fold, _, room] = &mut call.numbers;
+        match self {
+            Fault::AskAlphabetNarrowed => *alphabet &= 0xFF,
+            Fault::AskUnchosen if *fold == 1 => *fold = 0,
+            Fault::AskOneTooFew => *room = room.saturating_add(1),
+            Fault::AskNarrowed => *room &= 0xFFFF_FFFF,
+            Fault::AskFirstChunk if call.text.len() > 4096 => {
+                replace_strangers(intake, &mut call.text[4096..], b'A');
+            }
+            _ => {}
+        }
+    }
+
+    /// What a port whose ask has this fault answers.
+    fn foretelling(self, call: &Call, words: &mut [u64]) {
+        let [.., fold, _, room] = call.numbers;
+        let stranger = model::first_stranger(intake(call), &call.text);
+        let number = match (self, words[0]) {
+            (Fault::AskWithoutMemory, 0) if room == 0 => 4,
+            (Fault::AskJustEnough, 0) if room == words[1] => 4,
+            (Fault::AskSigned, 0) if (room as i64) < 0 => 4,
+            (Fault::AskLimitsMemory, 0) if room > LIMIT => 2,
+            (Fault::AskLimit, 0) if words[3] == LIMIT => 2,
+            (Fault::AskMember, 0) if stranger.is_some() => 5,
+            (Fault::AskMemoryBeforeLimit, 2) | (Fault::AskMemoryBeforeState, 1) if room < completed(call) => 4,
+            (_, number) => number,
+        };
+        match (self, number) {
+            (Fault::AskAlphabetNarrowed, _) => {}
+            (Fault::AskUnchosen, _) => words[9] = fold,
+            (Fault::AskUnsound, 1) => words[0] = 0,
+            (Fault::AskRefusedNext, 4) => {
+                let enough = Call::ask(&call.numbers, &call.text, u64::MAX);
+                words[2..].copy_from_slice(&model::answer(&enough, &mut Memory::for_call(&enough, 0))[2..]);
+            }
+            (Fault::AskRefusedCount, 4) => words[1] = completed(call),
+            (Fault::AskRefusedZeroes, 1..) => words[2..].fill(0),
+            (_, 0) => self.taking(call, words),
+            _ => refuse(number, call, &[], words, &mut []),
+        }
+    }
+
+    /// What a port whose ask has this fault tells of a piece that is taken.
+    fn taking(self, call: &Call, words: &mut [u64]) {
+        let [alphabet, _, pending_bits, pending, has_bad, _, _, _, bad_count, room] = call.numbers;
+        let (intake, text) = (intake(call), &call.text[..]);
+        let bits = text.len() as u64 * model::width(alphabet);
+        let strangers = model::strangers(intake, text);
+        match (self, model::first_stranger(intake, text)) {
+            (Fault::AskBefore, _) => words[2..].copy_from_slice(&call.numbers[..9]),
+            (Fault::AskPendingStays, _) => words[4..6].copy_from_slice(&[pending_bits, pending]),
+            (Fault::AskPendingZero, _) => words[5] = 0,
+            (Fault::AskPendingFirst, _) if bits >= words[4] && bits > 0 => {
+                words[5] = u64::from(model::packed(intake, text)[0]) >> (8 - words[4]);
+            }
+            (Fault::AskPendingUnjoined, _) if words[1] == 0 => words[5] &= (1 << bits) - 1,
+            (Fault::AskPieceAlone, _) => words[1] = bits / 8,
+            (Fault::AskRoundedUp, _) => words[1] += u64::from(words[4] > 0),
+            (Fault::AskCountsMemory, _) => words[1] = room,
+            (Fault::AskBlind, Some(_)) => {
+                words[10] = bad_count;
+                if has_bad == 0 {
+                    words[6..9].fill(0);
+                }
+            }
+            (Fault::AskCountsFirst, Some(_)) => words[10] = bad_count + 1,
+            (Fault::AskCountsAnew, _) => words[10] = strangers,
+            (Fault::AskPiecePosition, Some((place, _))) if has_bad == 0 => words[7] = place,
+            (Fault::AskForgets, _) => words[9] = 0,
+            _ => {}
+        }
+    }
+
     /// What a host that is wrong in this way takes for the guesses of a genome: Dna2bit, then those of its chromosomes.
     pub fn guesses(self, call: &Call, guesses: &mut Vec<u64>) {
         let chromosomes: Vec<&[u8]> = call.pieces().collect();
@@ -623,6 +746,12 @@ fn refuse(number: u64, call: &Call, before: &[u8], words: &mut [u64], out: &mut 
     answer.fill(0);
     answer[0] = number;
     state.copy_from_slice(&call.numbers[..next]);
+}
+
+/// How many bytes an update would write, whatever else is asked of it.
+fn completed(call: &Call) -> u64 {
+    let [alphabet, _, pending_bits, ..] = call.numbers;
+    pending_bits.saturating_add(call.text.len() as u64 * model::width(alphabet)) / 8
 }
 
 /// Writes each byte of `from` as the one of `to` at its place.

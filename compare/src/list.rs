@@ -5,6 +5,7 @@
 #![allow(dead_code)] // what only the comparison uses stands idle
 
 mod alphabet;
+mod asking;
 mod case;
 #[path = "sample.rs"]
 mod check;
@@ -40,6 +41,7 @@ const HEAD: &str = "\
 # Nor does it refuse a code that no symbol has: a refusal 18 of the covered read, and the base that it tells, are the
 # model's, and so is the third number of what that read answers.
 # Nor does it combine two guesses: it answered by its guess of two texts joined, whose guesses they are.
+# Nor can it be asked before it packs: `encoder_ask` it answered by its update of a copy, with what that writes left unseen.
 ";
 
 fn cases(layer: Layer, check: &mut Checker) -> Go {
@@ -51,6 +53,7 @@ fn cases(layer: Layer, check: &mut Checker) -> Go {
         Layer::Streaming => streaming::cases(check, random, SCALE),
         Layer::Ending => streaming::ends(check, random, SCALE),
         Layer::Genome => genome::cases(check, random, SCALE),
+        Layer::Asking => asking::cases(check, random, SCALE),
     }
 }
 

@@ -2,6 +2,7 @@
 
 mod abi;
 mod alphabet;
+mod asking;
 mod case;
 mod check;
 mod damaged;
@@ -65,6 +66,7 @@ fn cases(layer: Layer, check: &mut Checker, options: &Options) -> Go {
         Layer::Streaming => streaming::cases(check, random, scale),
         Layer::Ending => streaming::ends(check, random, scale),
         Layer::Genome => genome::cases(check, random, scale),
+        Layer::Asking => asking::cases(check, random, scale),
     }
 }
 

@@ -1,7 +1,8 @@
 //! Document 01's questions and answers, with the choice to fold (A1), the count of non-members (A5), the covered read's
-//! question about codes that no symbol has (A7) and the guess of a genome (A9) that document 02 adds, written from their
-//! sentences and not from the Rust: slow, small, and whole. It gives every word of every answer, on a refusal too, and the
-//! memory afterwards. It is held against the Rust wherever the Rust has an answer, and decides where the Rust has none.
+//! question about codes that no symbol has (A7), the guess of a genome (A9) and the ask before packing (A10) that document
+//! 02 adds, written from their sentences and not from the Rust: slow, small, and whole. It gives every word of every answer,
+//! on a refusal too, and the memory afterwards. It is held against the Rust wherever the Rust has an answer, and decides
+//! where the Rust has none.
 
 use crate::case::{Call, Entry, Memory, Numbers};
 use crate::tally;
@@ -236,6 +237,8 @@ fn accepted(call: &Call, memory: &mut Memory) -> Answer {
             let guesses: Vec<u64> = call.pieces().map(|chromosome| guess(chosen(n[0]), chromosome)).collect();
             Ok(vec![0, latest(&guesses)])
         }
+        Entry::EncoderAsk => foretold(&n, &call.text, n[9]).map(|(words, _)| words),
+        Entry::AskList => Ok(asks(call, memory)),
         _ => window(call, memory.lent(0)),
     }
 }
@@ -275,7 +278,7 @@ fn fresh_encoder(alphabet: u64, fold: u64) -> Vec<u64> {
 /// Question 4 for an encoder, under the choice that its state keeps: 0 or 1. With no first non-member its position and
 /// byte mean nothing. The count is zero exactly then, and else at most the symbols seen from that position on.
 fn encoder_sound(state: &Numbers) -> Result<(), No> {
-    let [alphabet, seen, pending_bits, pending, has_bad, bad_position, bad_byte, fold, bad_count] = *state;
+    let [alphabet, seen, pending_bits, pending, has_bad, bad_position, bad_byte, fold, bad_count, _] = *state;
     ask(alphabet <= 5, 8)?;
     ask(fold <= 1, 1)?;
     ask(seen <= LIMIT, 1)?;
@@ -289,9 +292,11 @@ fn encoder_sound(state: &Numbers) -> Result<(), No> {
     ask(has_bad == 0 || bad_count <= seen - bad_position, 1)
 }
 
-fn update(state: &Numbers, piece: &[u8], out: &mut [u8]) -> Answer {
+/// The answer to a piece and output memory of `room` bytes, and the bytes that it tells of: the questions in their order, and
+/// nothing written. Neither `update` nor the ask has another place that asks, or that makes the next state.
+fn foretold(state: &Numbers, piece: &[u8], room: u64) -> Result<(Vec<u64>, Vec<u8>), No> {
     encoder_sound(state)?;
-    let [alphabet, seen, pending_bits, pending, has_bad, bad_position, bad_byte, fold, bad_count] = *state;
+    let [alphabet, seen, pending_bits, pending, has_bad, bad_position, bad_byte, fold, bad_count, _] = *state;
     let intake = Intake { alphabet, fold: fold == 1 };
     ask(piece.len() as u64 <= LIMIT - seen, 2)?;
     let mut row: Vec<u64> = bits(pending, pending_bits).collect();
@@ -299,7 +304,8 @@ fn update(state: &Numbers, piece: &[u8], out: &mut [u8]) -> Answer {
     let whole = row.chunks_exact(8);
     let left = whole.remainder();
     let bytes: Vec<u8> = whole.clone().map(|byte| number(byte) as u8).collect();
-    let count = write(out, &bytes)?;
+    let count = bytes.len() as u64;
+    ask(count <= room, 4)?;
     let bad = match first_stranger(intake, piece) {
         _ if has_bad == 1 => [1, bad_position, bad_byte],
         Some((place, byte)) => [1, seen + place, u64::from(byte)],
@@ -307,12 +313,39 @@ fn update(state: &Numbers, piece: &[u8], out: &mut [u8]) -> Answer {
     };
     let packed = [alphabet, seen + piece.len() as u64, left.len() as u64, number(left)];
     let known = [bad[0], bad[1], bad[2], fold, bad_count + strangers(intake, piece)];
-    Ok([&[0, count][..], &packed, &known].concat())
+    Ok(([&[0, count][..], &packed, &known].concat(), bytes))
+}
+
+fn update(state: &Numbers, piece: &[u8], out: &mut [u8]) -> Answer {
+    let (words, bytes) = foretold(state, piece, out.len() as u64)?;
+    out[..bytes.len()].copy_from_slice(&bytes);
+    Ok(words)
+}
+
+/// A list of pieces. Each is asked about with the length of its memory, then packed into that, then asked about twice more:
+/// with the largest length there is, and with the count that this answer tells. All four get the same state, the one that
+/// the last update returned.
+fn asks(call: &Call, memory: &mut Memory) -> Vec<u64> {
+    let mut state = call.numbers;
+    let mut words = Vec::new();
+    for (at, piece) in call.pieces().enumerate() {
+        let handed_in = Call::new(Entry::EncoderUpdate, &state);
+        let told = |answer: Answer| answer.unwrap_or_else(|no| refused(&handed_in, &no));
+        let asked = |room: u64| told(foretold(&state, piece, room).map(|(words, _)| words));
+        let out = memory.lent(at);
+        let before = asked(out.len() as u64);
+        let packed = told(update(&state, piece, out));
+        let most = asked(u64::MAX);
+        let exact = asked(most[1]);
+        state[..9].copy_from_slice(&packed[2..]);
+        words.extend([before, packed, most, exact].concat());
+    }
+    words
 }
 
 fn finalize(state: &Numbers, out: &mut [u8]) -> Answer {
     encoder_sound(state)?;
-    let [_, _, pending_bits, pending, has_bad, bad_position, bad_byte, _, bad_count] = *state;
+    let [_, _, pending_bits, pending, has_bad, bad_position, bad_byte, _, bad_count, _] = *state;
     if has_bad == 1 {
         return Err(No::Member(bad_position, bad_byte as u8, bad_count));
     }

@@ -12,7 +12,7 @@ pub fn cases(check: &mut Checker, random: &mut Random, scale: u64) -> Go {
         strangers_at_every_place(check, random, intake)?;
         every_byte(check, random, intake)?;
         every_cut(check, random, intake)?;
-        forged_counts(check, random, intake)?;
+        forged_counts(check, random, intake, through_both)?;
         if intake.alphabet < 4 {
             counts(check, random, intake, scale)?;
         }
@@ -32,7 +32,7 @@ pub fn cases(check: &mut Checker, random: &mut Random, scale: u64) -> Go {
 }
 
 /// Every alphabet under both choices.
-fn intakes() -> Vec<Intake> {
+pub fn intakes() -> Vec<Intake> {
     (0..=5).flat_map(|alphabet| [false, true].map(|fold| Intake { alphabet, fold })).collect()
 }
 
@@ -69,7 +69,7 @@ fn need(intake: Intake, len: usize) -> usize {
 }
 
 /// Room around what is needed: too little by one, just enough, a little more, none.
-fn room_near(random: &mut Random, need: usize) -> usize {
+pub fn room_near(random: &mut Random, need: usize) -> usize {
     match random.below(8) {
         0 => 0,
         1 | 2 => need.saturating_sub(1),
@@ -158,7 +158,7 @@ fn random_sequence(check: &mut Checker, random: &mut Random, intake: Intake) -> 
 }
 
 /// Gives a state a first non-member, and a count that goes with it: one, all symbols from there on, or between.
-fn bad(random: &mut Random, state: &mut Numbers, position: u64, byte: u64) {
+pub fn bad(random: &mut Random, state: &mut Numbers, position: u64, byte: u64) {
     let most = state[1].saturating_sub(position).max(1);
     let (some, near) = (1 + random.below(most), most - random.below(most.min(3)));
     state[4..7].copy_from_slice(&[1, position, byte]);
@@ -171,17 +171,22 @@ fn stray(random: &mut Random, intake: Intake, state: &mut Numbers, position: u64
     bad(random, state, position, u64::from(byte));
 }
 
+/// A state that has seen so many symbols and no non-member, with any bits pending.
+pub fn clean_state(random: &mut Random, intake: Intake, seen: u64) -> Numbers {
+    let pending_bits = seen * intake.width() % 8;
+    let pending = random.below(1 << pending_bits);
+    [intake.alphabet, seen, pending_bits, pending, 0, 0, 0, u64::from(intake.fold), 0, 0]
+}
+
 /// A state that answers every part of question 4 with yes, whether or not a text leads there.
-fn sound_state(random: &mut Random, intake: Intake) -> Numbers {
+pub fn sound_state(random: &mut Random, intake: Intake) -> Numbers {
     let seen = match random.below(5) {
         0 => random.below(9),
         1 => LIMIT - random.below(30),
         2 => random.below(LIMIT + 1),
         _ => random.below(200),
     };
-    let pending_bits = seen * intake.width() % 8;
-    let pending = random.below(1 << pending_bits);
-    let mut state = [intake.alphabet, seen, pending_bits, pending, 0, 0, 0, u64::from(intake.fold), 0];
+    let mut state = clean_state(random, intake, seen);
     if intake.alphabet < 4 && seen > 0 && random.one_in(3) {
         let position = random.below(seen);
         let position = random.pick(&[0, seen - 1, position]);
@@ -194,7 +199,7 @@ fn sound_state(random: &mut Random, intake: Intake) -> Numbers {
 }
 
 /// A sound state with something changed that may leave it unsound.
-fn forged_state(random: &mut Random, intake: Intake) -> Numbers {
+pub fn forged_state(random: &mut Random, intake: Intake) -> Numbers {
     let mut state = sound_state(random, intake);
     let seen = state[1];
     match random.below(14) {
@@ -240,7 +245,7 @@ fn forged_state(random: &mut Random, intake: Intake) -> Numbers {
 }
 
 /// How many bytes an update from a sound state writes for a piece.
-fn completed(state: &Numbers, len: usize) -> usize {
+pub fn completed(state: &Numbers, len: usize) -> usize {
     ((state[2] + len as u64 * model::width(state[0])) / 8) as usize
 }
 
@@ -277,8 +282,11 @@ fn random_finalize(check: &mut Checker, random: &mut Random, intake: Intake) -> 
     check.call(&Call::new(Entry::EncoderFinalize, &state).room(room))
 }
 
+/// What makes the calls that a state goes through.
+type Through = fn(&mut Checker, &mut Random, Intake, &Numbers) -> Go;
+
 /// Every count near those that question 4 tells apart, with every kind of `has_bad` and of position.
-fn forged_counts(check: &mut Checker, random: &mut Random, intake: Intake) -> Go {
+pub fn forged_counts(check: &mut Checker, random: &mut Random, intake: Intake, through: Through) -> Go {
     for seen in [0, 1, 2, 9, 64, LIMIT - 8, LIMIT] {
         for position in [0, 1, seen.saturating_sub(1), seen, seen + 1, u64::MAX] {
             let most = seen.saturating_sub(position);
@@ -288,7 +296,7 @@ fn forged_counts(check: &mut Checker, random: &mut Random, intake: Intake) -> Go
                     state[1..4].copy_from_slice(&[seen, seen * intake.width() % 8, 0]);
                     stray(random, intake, &mut state, position);
                     (state[4], state[8]) = (has_bad, count);
-                    through_both(check, random, intake, &state)?;
+                    through(check, random, intake, &state)?;
                 }
             }
         }

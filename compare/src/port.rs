@@ -7,7 +7,7 @@ use crate::faults::Fault;
 pub fn answer(call: &Call, memory: &mut Memory, fault: Option<Fault>) -> Vec<u64> {
     match call.entry.shape().layer {
         Layer::Alphabet => alphabet::answer(call, memory, fault),
-        Layer::Packing => packing::answer(call, memory, fault),
+        Layer::Packing | Layer::Asking => packing::answer(call, memory, fault),
         Layer::Windows => windows::answer(call, memory, fault),
         Layer::Streaming | Layer::Ending => streaming::answer(call, memory, fault),
         Layer::Genome => genome::answer(call, memory, fault),
@@ -73,12 +73,14 @@ mod packing {
     pub fn answer(call: &Call, memory: &mut Memory, fault: Option<Fault>) -> Vec<u64> {
         match call.entry {
             Entry::EncoderList => list(call, memory, fault),
+            Entry::AskList => asks(call, memory, fault),
             _ => faulty(call, memory.lent(0), fault, plain),
         }
     }
 
     fn plain(call: &Call, out: &mut [u8]) -> Vec<u64> {
-        let [alphabet, seen, pending_bits, pending, has_bad, bad_position, bad_byte, fold, bad_count] = call.numbers;
+        let [alphabet, seen, pending_bits, pending, has_bad, bad_position, bad_byte, fold, bad_count, length] =
+            call.numbers;
         let state = Encoder { alphabet, seen, pending_bits, pending, has_bad, bad_position, bad_byte, fold, bad_count };
         let (text, len) = (call.text.as_ptr(), call.text.len());
         let (out, room) = (out.as_mut_ptr(), out.len());
@@ -86,6 +88,7 @@ mod packing {
         unsafe {
             match call.entry {
                 Entry::EncoderNew => words(abi::fc_encoder_new(alphabet, call.numbers[1])),
+                Entry::EncoderAsk => words(abi::fc_encoder_ask(state, text, len, length)),
                 Entry::EncoderUpdate => words(abi::fc_encoder_update(state, text, len, out, room)),
                 Entry::EncoderFinalize => words(abi::fc_encoder_finalize(state, out, room)),
                 Entry::EncodeSequence => {
@@ -120,6 +123,26 @@ mod packing {
             let answer = faulty(&update, memory.lent(at), fault, plain);
             words.extend([answer[0], answer[1], 0, 0, 0]);
             state = answer[2..].to_vec();
+        }
+        words
+    }
+
+    /// What an update does beside what is told of it: each piece is asked about with the length of its memory, then packed
+    /// into that, then asked about twice more, with the largest length there is and with the count that this answer tells.
+    /// All four get the same state, the one that the last update returned.
+    fn asks(call: &Call, memory: &mut Memory, fault: Option<Fault>) -> Vec<u64> {
+        let mut state = call.numbers[..9].to_vec();
+        let mut words = Vec::new();
+        for (at, piece) in call.pieces().enumerate() {
+            let asked = |room: u64| faulty(&Call::ask(&state, piece, room), &mut [], fault, plain);
+            let out = memory.lent(at);
+            let before = asked(out.len() as u64);
+            let update = Call::new(Entry::EncoderUpdate, &state).text(piece);
+            let packed = faulty(&update, out, fault, plain);
+            let most = asked(u64::MAX);
+            let exact = asked(most[1]);
+            state = packed[2..].to_vec();
+            words.extend([before, packed, most, exact].concat());
         }
         words
     }

@@ -3,7 +3,8 @@
 //! folds is put to it with the uppercased text, and the byte that it then reports is exchanged for the one received. Nor
 //! does it count non-members: of a state and of a refusal 5 it tells all but the count. Nor does any read of its refuse a
 //! code that no symbol has; which codes these are, its own table tells (`packed_again`). Nor does it combine guesses: it is
-//! asked for its guess of the texts joined.
+//! asked for its guess of the texts joined. Nor can it be asked before it packs: it packs a copy, and what it then tells is
+//! its answer, what it wrote left unseen.
 
 use crate::case::{Call, Entry, Layer, Memory};
 use crate::model;
@@ -42,10 +43,8 @@ impl Opinion {
 
 /// The words that the Rust tells of each call of a list: all of a stream's answer, and of an encoder's all but the count.
 const TOLD: usize = 4;
-
-fn is_list(call: &Call) -> bool {
-    matches!(call.entry, Entry::EncoderList | Entry::StreamList)
-}
+/// The words that it tells of an update: all but the next state's choice and its count.
+const UPDATED: usize = 9;
 
 /// Collects opinions about one call, each with memory of its own.
 struct Panel<'a> {
@@ -64,7 +63,11 @@ impl Panel<'_> {
         if self.received.text != self.call.text {
             report_received(self.received, &mut words);
         }
-        let row = if is_list(self.call) { TOLD } else { words.len() };
+        let row = match self.call.entry {
+            Entry::EncoderList | Entry::StreamList => TOLD,
+            Entry::AskList => UPDATED,
+            _ => words.len(),
+        };
         let rows = words.chunks(row).map(<[u64]>::to_vec).collect();
         self.opinions.push(Opinion { of, rows, memory });
     }
@@ -102,7 +105,10 @@ fn report_received(call: &Call, words: &mut [u64]) {
         }
     };
     match call.entry {
-        Entry::EncoderUpdate if words[6] == 1 => exchange(call.numbers[1], &mut words[7..9]),
+        Entry::EncoderUpdate | Entry::EncoderAsk | Entry::AskList => {
+            let bad = words.chunks_mut(UPDATED).filter(|answer| answer[6] == 1);
+            bad.for_each(|answer| exchange(call.numbers[1], &mut answer[7..]));
+        }
         Entry::EncodeSequence | Entry::EncoderList => {
             words.chunks_mut(TOLD).filter(|answer| answer[0] == 5).for_each(|answer| exchange(0, &mut answer[2..]));
         }
@@ -122,7 +128,7 @@ pub fn opinions(call: &Call, before: &Memory, expected: &[u64]) -> Vec<Opinion> 
     }
     match call.entry.shape().layer {
         Layer::Alphabet => of_alphabet(&mut panel),
-        Layer::Packing => of_packing(&mut panel),
+        Layer::Packing | Layer::Asking => of_packing(&mut panel),
         Layer::Windows => of_windows(&mut panel),
         Layer::Streaming | Layer::Ending => of_streaming(&mut panel),
         Layer::Genome => of_genome(&mut panel),
@@ -194,12 +200,15 @@ fn of_packing(panel: &mut Panel) {
             [vec![0], next_words(call.numbers[0], &fresh)].concat()
         }),
         Entry::EncoderUpdate => panel.say("SequenceEncoder::update", |call, memory| {
-            let mut encoder = forged(call);
-            encoder.update(&call.text);
-            let bytes = inside::written(&encoder);
-            write(memory.lent(0), bytes);
-            [vec![0, bytes.len() as u64], next_words(call.numbers[0], &encoder)].concat()
+            let (words, bytes) = updated(call, &mut forged(call), &call.text);
+            write(memory.lent(0), &bytes);
+            words
         }),
+        Entry::EncoderAsk => panel.say("SequenceEncoder::update of a copy", |call, _| {
+            let (words, _) = updated(call, &mut forged(call), &call.text);
+            words
+        }),
+        Entry::AskList => panel.say("SequenceEncoder::update, piece by piece", ask_list),
         Entry::EncoderFinalize => {
             panel.say("SequenceEncoder::finalize", |call, memory| packed(forged(call).finalize(), memory.lent(0)))
         }
@@ -241,6 +250,26 @@ fn next_words(alphabet: u64, encoder: &SequenceEncoder) -> Vec<u64> {
     vec![alphabet, state.symbols_seen as u64, bits, state.buffer, has_bad, position as u64, u64::from(byte)]
 }
 
+/// A piece behind those that the encoder has: the answer, and the bytes that the piece completes.
+fn updated(call: &Call, encoder: &mut SequenceEncoder, piece: &[u8]) -> (Vec<u64>, Vec<u8>) {
+    let before = inside::written(encoder).len();
+    encoder.update(piece);
+    let bytes = inside::written(encoder)[before..].to_vec();
+    ([vec![0, bytes.len() as u64], next_words(call.numbers[0], encoder)].concat(), bytes)
+}
+
+/// Each piece is packed once: what that answers is the answer to every ask about it.
+fn ask_list(call: &Call, memory: &mut Memory) -> Vec<u64> {
+    let mut encoder = forged(call);
+    let mut words = Vec::new();
+    for (at, piece) in call.pieces().enumerate() {
+        let (answer, bytes) = updated(call, &mut encoder, piece);
+        write(memory.lent(at), &bytes);
+        words.extend(answer.repeat(4));
+    }
+    words
+}
+
 fn packed(result: Result<Vec<u8>, EncodeError>, out: &mut [u8]) -> Vec<u64> {
     match result {
         Ok(bytes) => {
@@ -273,11 +302,9 @@ fn encoder_list(call: &Call, memory: &mut Memory) -> Vec<u64> {
             }
             continue;
         }
-        let before = inside::written(&encoder).len();
-        encoder.update(pieces.next().unwrap_or(&[]));
-        let bytes = &inside::written(&encoder)[before..];
-        write(memory.lent(at), bytes);
-        words.extend([0, bytes.len() as u64, 0, 0]);
+        let (answer, bytes) = updated(call, &mut encoder, pieces.next().unwrap_or(&[]));
+        write(memory.lent(at), &bytes);
+        words.extend([0, answer[1], 0, 0]);
     }
     words
 }

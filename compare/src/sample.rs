@@ -2,7 +2,7 @@
 //! entry points, refusals and alphabets.
 
 use crate::case::{show_words, Call, Entry, Layer, Memory};
-use crate::model;
+use crate::model::{self, LIMIT};
 use crate::random::Random;
 use std::collections::{BTreeMap, HashSet};
 
@@ -102,7 +102,11 @@ fn group(call: &Call, words: &[u64]) -> [u64; 4] {
         // How many non-members are told, known or said to be known: none, one or more.
         Entry::EncoderFinalize | Entry::EncodeSequence if refusal == 5 => words[4].min(2),
         Entry::EncoderUpdate if refusal == 0 => words[10].min(2),
-        Entry::EncoderUpdate | Entry::EncoderFinalize if refusal == 1 => call.numbers[8].min(2),
+        // The same, and whether more memory is asked about than a host can lend.
+        Entry::EncoderAsk if refusal == 0 => words[10].min(2) + 3 * u64::from(call.numbers[9] >= LIMIT),
+        Entry::EncoderUpdate | Entry::EncoderFinalize | Entry::EncoderAsk if refusal == 1 => call.numbers[8].min(2),
+        // Whether the memory asked about is none, or some.
+        Entry::EncoderAsk => call.numbers[9].min(1),
         Entry::Contains | Entry::EncoderFinalize => words[1],
         Entry::StreamRead => words[3], // the status
         Entry::ByteRange => u64::from(call.numbers[0] > call.numbers[1]),

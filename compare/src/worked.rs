@@ -1,6 +1,7 @@
 //! Document 01's worked table, row by row: it holds the model to the document's own figures. Its rows do not fold; those
 //! of document 02's first request, which do, stand behind them, those of its fifth, which count non-members, those of its
-//! seventh, in which a code is no symbol's, and those of its ninth, in which guesses are combined.
+//! seventh, in which a code is no symbol's, those of its ninth, in which guesses are combined, and those of its tenth, in
+//! which an update is asked about.
 
 use crate::case::{Call, Entry, Step};
 use crate::check::{Checker, Go};
@@ -8,7 +9,8 @@ use crate::model::{DONE, FULL, HUNGRY, LIMIT};
 
 /// All rows.
 pub fn rows(check: &mut Checker) -> Go {
-    let rows = [guesses(), packings(), windows(), streams(), folded(), counted(), lacking(), combined()].concat();
+    let rows =
+        [guesses(), packings(), windows(), streams(), folded(), counted(), lacking(), combined(), asked()].concat();
     for (call, words, bytes) in rows {
         check.row(&call, &words, &bytes)?;
     }
@@ -217,4 +219,51 @@ fn combined() -> Vec<Row> {
         texts(1, b"acgt", b"ACGT", 0),
     ];
     [alphabets.to_vec(), genomes.concat()].concat()
+}
+
+/// What the sentences on the ask make of states, pieces and lengths of memory, told by hand. Where memory of that length can
+/// be lent, a list has the same answer twice at its front: of the ask, and of the update that is then made.
+fn asked() -> Vec<Row> {
+    let row = |state: [u64; 9], piece: &[u8], room: u64, answer: [u64; 2], next: [u64; 9]| {
+        let words = [&answer[..], &next].concat();
+        let mut rows = vec![(Call::ask(&state, piece, room), words.clone(), vec![])];
+        if room < u64::MAX {
+            let step = Step { length: piece.len(), room: room as usize, last: false };
+            let list = Call::new(Entry::AskList, &state).text(piece).steps(vec![step]);
+            rows.push((list, words.repeat(2), vec![]));
+        }
+        rows
+    };
+    let refused = |number: u64, state: [u64; 9], piece: &[u8], room: u64| row(state, piece, room, [number, 0], state);
+    let fresh = [0; 9];
+    let folding = [0, 0, 0, 0, 0, 0, 0, 1, 0];
+    // Three symbols seen, ACG, whose bits are 100111; and four, N at 2 the only one that is no base.
+    let (three, one_bad) = ([0, 3, 6, 39, 0, 0, 0, 0, 0], [0, 4, 0, 0, 1, 2, 0x4E, 0, 1]);
+    let (unsound, full) = ([0, 4, 2, 0, 0, 0, 0, 0, 0], [0, LIMIT, 0, 0, 0, 0, 0, 0, 0]);
+    let rows = [
+        refused(4, fresh, b"ACGT", 0),
+        row(fresh, b"ACG", 0, [0, 0], three),
+        row(fresh, b"", 0, [0, 0], fresh),
+        row(fresh, b"ACGT", 1, [0, 1], [0, 4, 0, 0, 0, 0, 0, 0, 0]),
+        refused(4, fresh, b"ACGTACGT", 1),
+        row(fresh, b"ACGTACGT", u64::MAX, [0, 2], [0, 8, 0, 0, 0, 0, 0, 0, 0]),
+        // Bits that pend come first: 100111 00 is a byte, and 10 pends.
+        refused(4, three, b"TA", 0),
+        row(three, b"TA", 1, [0, 1], [0, 5, 2, 2, 0, 0, 0, 0, 0]),
+        // A non-member is no refusal; it packs as ones, and the next state knows of it.
+        row(fresh, b"ANNT", 1, [0, 1], [0, 4, 0, 0, 1, 1, 0x4E, 0, 2]),
+        row(one_bad, b"N", 0, [0, 0], [0, 5, 2, 3, 1, 2, 0x4E, 0, 2]),
+        row(folding, b"acnt", 1, [0, 1], [0, 4, 0, 0, 1, 2, 0x6E, 1, 1]),
+        // Without a first non-member its place and byte mean nothing; a refusal hands them back.
+        row([0, 0, 0, 0, 0, 7, 9, 0, 0], b"A", 0, [0, 0], [0, 1, 2, 2, 0, 0, 0, 0, 0]),
+        refused(4, [0, 0, 0, 0, 0, 7, 9, 0, 0], b"ACGT", 0),
+        row([0, LIMIT - 4, 0, 0, 0, 0, 0, 0, 0], b"ACGT", 1, [0, 1], full),
+        refused(2, full, b"ACGT", 0),
+        refused(1, unsound, b"ACGT", 0),
+        refused(8, [6, 4, 2, 0, 0, 0, 0, 0, 0], b"ACGT", 0),
+        refused(8, [6, 4, 2, 0, 0, 0, 0, 0, 0], b"ACGT", u64::MAX),
+        refused(1, unsound, b"ACGT", u64::MAX),
+        refused(2, full, b"A", u64::MAX),
+    ];
+    rows.concat()
 }

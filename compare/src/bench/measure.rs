@@ -14,7 +14,9 @@ the Rust guesses them joined. In a row `folded ..` the port folds a soft-masked 
 not folded, which the Rust gets as well. In a row `bad ..` port and Rust pack nothing but non-members, in a row
 `stray ..` a text with one non-member in its first piece; plain is a text of members. In a row `damaged ..` the last
 code of each window is no symbol's, and the port's covered read refuses where the Rust shows X; plain is the same
-windows with no such code.
+windows with no such code. In a row `ask ..` the port is asked what packing each piece would do and writes nothing, and
+the Rust, which can tell only by packing, packs the pieces; plain is the port's update of them, and P/plain the share of
+an update's time that an ask takes.
 ";
 
 /// The columns of the file that --tsv asks for: sizes of one call, times of one call in nanoseconds, ratios of best times.
@@ -112,7 +114,7 @@ impl Bench {
         self.measure(row, &mut [port, rust]);
     }
 
-    /// Measures a row with the port's calls on a plain text beside it.
+    /// Measures a row with the port's calls on a plain text, or its plain calls, beside it.
     pub fn beside(&mut self, row: &Row, port: &mut dyn FnMut(), rust: &mut dyn FnMut(), plain: &mut dyn FnMut()) {
         self.measure(row, &mut [port, rust, plain]);
     }

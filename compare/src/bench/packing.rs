@@ -26,12 +26,33 @@ pub fn rows(bench: &mut Bench, sample: &Sample) {
     let mut port = || port_sequence(sample, 0, text, &mut out);
     bench.row(&row, &mut port, &mut || rust_sequence(sample, text));
     check(bench, &row, &out, &packed);
+    for piece in [64, PIECE] {
+        ask(bench, sample, piece, &packed);
+    }
     folded(bench, sample);
     if sample.number < 4 {
         bad(bench, sample, &packed);
     }
     if sample.number == 0 {
         stray(bench, sample, &packed);
+    }
+}
+
+/// The port asked about each piece, with all the memory there can be, beside its own updates of the same pieces. The Rust can
+/// tell only by packing them. The asks must come to the state and to the count of bytes that the updates come to.
+fn ask(bench: &mut Bench, sample: &Sample, piece: usize, packed: &[u8]) {
+    let (name, text) = (format!("ask {piece} {}", sample.name), &sample.text);
+    let row = row(&name, sample, packed);
+    let mut out = vec![0x5A; packed.len()];
+    let (mut told, mut made) = <(Run, Run)>::default();
+    let mut port = || told = black_box(port_asks(sample, text, piece));
+    let mut plain = || made = black_box(port_updates(sample, 0, text, piece, &mut out));
+    bench.beside(&row, &mut port, &mut || _ = black_box(rust_update(sample, text, piece)), &mut plain);
+    if bench.wants(&name) {
+        let whole = text.len() * sample.table.bits_per_symbol / 8;
+        assert_eq!(told, made, "{name}: the asks tell otherwise than the updates");
+        assert_eq!(told.1, whole, "{name}: the asks count otherwise");
+        check(bench, &row, &out[..whole], &packed[..whole]);
     }
 }
 
@@ -120,19 +141,40 @@ fn rust_sequence(sample: &Sample, text: &[u8]) {
     drop(black_box(encode_sequence(black_box(text), sample.table)));
 }
 
+/// The state that an encoder's last answer told, and the bytes that its answers counted in all.
+type Run = (abi::Encoder, usize);
+
+/// A text piece by piece, from a fresh encoder on: each call gets what the calls before it came to.
+fn run(sample: &Sample, fold: u64, text: &[u8], piece: usize, mut call: impl FnMut(Run, &[u8]) -> abi::Updated) -> Run {
+    // SAFETY: the call is lent nothing.
+    let mut so_far = (unsafe { abi::fc_encoder_new(sample.number, fold) }.next, 0);
+    for piece in black_box(text).chunks(piece) {
+        let answer = call(so_far, piece);
+        so_far = (answer.next, so_far.1 + answer.count as usize);
+    }
+    so_far
+}
+
+fn port_updates(sample: &Sample, fold: u64, text: &[u8], piece: usize, out: &mut [u8]) -> Run {
+    run(sample, fold, text, piece, |(state, written), piece| {
+        let room = &mut out[written..];
+        // SAFETY: each pointer is lent with its length and the two memories are apart.
+        unsafe { abi::fc_encoder_update(state, piece.as_ptr(), piece.len(), room.as_mut_ptr(), room.len()) }
+    })
+}
+
+fn port_asks(sample: &Sample, text: &[u8], piece: usize) -> Run {
+    run(sample, 0, text, piece, |(state, _), piece| {
+        // SAFETY: the piece is lent with its length.
+        unsafe { abi::fc_encoder_ask(state, piece.as_ptr(), piece.len(), u64::MAX) }
+    })
+}
+
 /// The answer of `finalize` behind the updates.
 fn port_update(sample: &Sample, fold: u64, text: &[u8], piece: usize, out: &mut [u8]) -> abi::Packed {
-    let mut written = 0;
-    // SAFETY: each pointer is lent with its length and the two memories are apart.
-    let mut state = unsafe { abi::fc_encoder_new(sample.number, fold) }.next;
-    for piece in black_box(text).chunks(piece) {
-        let room = &mut out[written..];
-        let (to, size) = (room.as_mut_ptr(), room.len());
-        let answer = unsafe { abi::fc_encoder_update(state, piece.as_ptr(), piece.len(), to, size) };
-        written += answer.count as usize;
-        state = answer.next;
-    }
+    let (state, written) = port_updates(sample, fold, text, piece, out);
     let room = &mut out[written..];
+    // SAFETY: the memory is lent with its length.
     unsafe { abi::fc_encoder_finalize(state, room.as_mut_ptr(), room.len()) }
 }
 
