@@ -13,6 +13,7 @@ ROW, BAR, GAP, LAYER = 12.5, 10, 6, 20  # heights of a row, its bars, the space 
 NUMBERS = {"port_to_rust": (76, 34), "port_to_memcpy": (32, 56)}  # room for the numbers beside the bars, left and right
 FASTER, SLOWER, COPY, GRID, INK, GOAL = ("#2a7f86", "#86bcc1"), ("#c8642c", "#e6ab89"), ("#7c86a3", "#b7bdce"), "#dddddd", "#222222", "#a3123a"
 STEPS = [m * 10.0**e for e in range(-3, 4) for m in (1, 2, 5)]
+LEAST = 0.01  # a bar of less is drawn as long, so that one row does not press all others together; its number tells
 
 
 class Scale:
@@ -20,10 +21,10 @@ class Scale:
 
     def __init__(self, edges, room, ratios):
         self.left, self.right = edges[0] + room[0], edges[1] - room[1]
-        self.low, self.high = min(ratios + [0.5]), max(ratios + [2])
+        self.low, self.high = max(LEAST, min(ratios + [0.5])), max(ratios + [2])
 
     def x(self, ratio):
-        share = math.log(ratio / self.low) / math.log(self.high / self.low)
+        share = math.log(max(ratio, self.low) / self.low) / math.log(self.high / self.low)
         return self.left + share * (self.right - self.left)
 
     def steps(self):
@@ -56,7 +57,7 @@ class Drawing:
 
 def shown(ratio):
     """A ratio in two figures or three."""
-    places = 0 if ratio >= 9.95 else 1 if ratio >= 1.995 else 2 if ratio >= 0.0995 else 3
+    places = 0 if ratio >= 9.95 else 1 if ratio >= 1.995 else 2 if ratio >= 0.0995 else 3 if ratio >= 0.0095 else 4
     return f"{ratio:.{places}f}"
 
 

@@ -56,7 +56,7 @@ askedOfText alphabet fold text room =
     ∷ (5 unless clean (firstFrom (numberedBy fold alphabet) 0 text))
     ∷ []
 
--- 4, 5, 9, of `update`
+-- 4, 5, 9, of `update`, and of `ask`, where `room` is the length that is asked about
 unfoldable pub askedOfPiece : SequenceEncoder → List ℕ → ℕ → List Asked
 askedOfPiece s piece room =
     (1 unless soundEncoder s)

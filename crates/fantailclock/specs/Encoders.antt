@@ -100,7 +100,7 @@ stateOf e =
     ask leb (e .«pending_bits») 255 && leb (e .pending) 255 else State.Refused 1 then
     State.Fits (inside e)
 
--- `fc_encoder_update`
+-- `fc_encoder_update`, and `fc_encoder_ask`, where `room` is the length that is asked about
 abbrev pub updatedBy : Encoder → Answer → Updated
 updatedBy e (answer.Wrote count s) = record { refusal = 0; count = count; next = outside s }
 updatedBy e (answer.Refused q s) = record { refusal = numberIn (refusalReply q); count = 0; next = e }

@@ -222,9 +222,9 @@ fn updated_of(state: Encoder, answer: packing::Updated) -> Updated
     ensures { λ r. ⌜ r ≡ updatedBy state answer ⌝ }
 {
     match answer {
-        packing::Updated::Wrote(count, next) => Updated {
+        packing::Updated::Wrote(written, next) => Updated {
             refusal: 0,
-            count: count as u64,
+            count: written as u64,
             next: encoder_of(next),
         },
         packing::Updated::Refused(refusal, _) => Updated {

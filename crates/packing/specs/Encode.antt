@@ -1,6 +1,6 @@
 -- Packing texts. States document 01, "Middle: packing", questions 1, 4, 5, 8, 9 and 10 for `encode_sequence`, `new`, `update` and `finalize`, and for them request
 -- A1: the choice to fold is in the coding that a text is packed by, so that a text is looked at as it came, and a refusal 5 has the byte received; and request A5:
--- non-members are counted, and a refusal 5 tells how many there are.
+-- non-members are counted, and a refusal 5 tells how many there are. Request A10 has no definition of its own: `ask` answers what `update` answers, `updateAt`.
 -- Each call has its answer, from what it is given and the length `room` of its output memory, and the memory afterwards.
 use Prim.Native.Nat.{ℕ, suc, _+_, _-_, _*_, _/_, _%_, _^_}
 use mathlib.Core.Bool.{Bool, true, cond, not, _&&_}
