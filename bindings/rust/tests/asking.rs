@@ -7,7 +7,7 @@ use fantailclock::*;
 use support::guard::{Guarded, PLACES};
 use support::model;
 use support::random::Random;
-use support::table::{number, rows, STATES};
+use support::table::{encoder, number, rows, STATES};
 
 const CHOICES: [Folding; 2] = [Folding::Off, Folding::On];
 
@@ -167,20 +167,6 @@ fn every_byte() {
         }
     }
     assert_eq!(tally.all(), 6 * 2 * 256 * 2 * 2);
-}
-
-fn encoder(numbers: &[u64]) -> raw::Encoder {
-    raw::Encoder {
-        alphabet: numbers[0],
-        seen: numbers[1],
-        pending_bits: numbers[2],
-        pending: numbers[3],
-        has_bad: numbers[4],
-        bad_position: numbers[5],
-        bad_byte: numbers[6],
-        fold: numbers[7],
-        bad_count: numbers[8],
-    }
 }
 
 /// The table's states, sound and forged: what is refused is refused by its number, whatever the piece and the room.

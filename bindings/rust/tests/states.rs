@@ -6,7 +6,7 @@ use fantailclock::{raw, Alphabet, Error, FinalizeError, Guesser, SequenceEncoder
 use support::guard::{Case, Harness};
 use support::model;
 use support::random::Random;
-use support::table::{number, rows, Row, STATES};
+use support::table::{encoder, number, rows, Row, STATES};
 
 const PATTERN: [u8; 8] = [0xC3; 8];
 
@@ -50,20 +50,6 @@ fn guessers() {
         let place = u64::from(mask.trailing_zeros());
         let guess = expected(&row).map(|()| Alphabet::try_from(place).unwrap());
         assert_eq!(Guesser::from_raw(state).guess(), guess, "{}", row.line);
-    }
-}
-
-fn encoder(numbers: &[u64]) -> raw::Encoder {
-    raw::Encoder {
-        alphabet: numbers[0],
-        seen: numbers[1],
-        pending_bits: numbers[2],
-        pending: numbers[3],
-        has_bad: numbers[4],
-        bad_position: numbers[5],
-        bad_byte: numbers[6],
-        fold: numbers[7],
-        bad_count: numbers[8],
     }
 }
 

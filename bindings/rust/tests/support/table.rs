@@ -1,5 +1,7 @@
 //! The tables of bindings/tables, which the tests of every language share.
 
+use fantailclock::raw;
+
 pub const WORKED: &str = include_str!("../../../tables/worked.txt");
 pub const STATES: &str = include_str!("../../../tables/states.txt");
 
@@ -49,4 +51,19 @@ pub fn bytes(word: &'static str) -> Vec<u8> {
 
 pub fn hex(bytes: &[u8]) -> String {
     bytes.iter().map(|byte| format!("{byte:02X}")).collect()
+}
+
+/// An encoder's state by its numbers, as a row of the states has them.
+pub fn encoder(numbers: &[u64]) -> raw::Encoder {
+    raw::Encoder {
+        alphabet: numbers[0],
+        seen: numbers[1],
+        pending_bits: numbers[2],
+        pending: numbers[3],
+        has_bad: numbers[4],
+        bad_position: numbers[5],
+        bad_byte: numbers[6],
+        fold: numbers[7],
+        bad_count: numbers[8],
+    }
 }
