@@ -28,7 +28,8 @@ ghost use Rattle.packing.specs.Encode.{encodeAt, encodeMemory};
 ghost use Rattle.packing.specs.Range.{rangeAt};
 ghost use Rattle.packing.specs.Answers.{encodedReply, rangeReply};
 ghost use Rattle.fantailclock.specs.Shapes.{range, packed, chosen};
-ghost use Rattle.fantailclock.specs.Encoders.{inside, fitting, outside, stateOf, encoderStarted, updatedBy, encoderUpdated, encoderUpdateMemory, finalizeTold, encoderFinalizeMemory};
+ghost use Rattle.fantailclock.specs.Encoders.{inside, fitting, outside, stateOf, encoderStarted};
+ghost use Rattle.fantailclock.specs.Encoders.{updatedBy, encoderUpdated, encoderUpdateMemory, finalizeTold, encoderFinalizeMemory};
 
 // A refusal as numbers, with its details.
 fn refused_by(refusal: Refusal) -> Packed

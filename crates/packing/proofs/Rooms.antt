@@ -60,7 +60,8 @@ module _ (s : SequenceEncoder) (piece : List ℕ) where
       go true e false f n = omega (arith, n)
       go true e true f n =
           let fits = le-leb due room (omega (arith, due-few e (leb-true (s .seen + length piece) limit f), l)) in
-          let none : _≡_ {A = ℕ} 0 4 = sym (ap (λ (b : Bool). numberIn (updatedReply (ask b else Updated.Refused (by 4 []) s then Updated.Wrote due (updated s piece)))) fits) ∙ n in
+          let told : Bool → ℕ = λ b. numberIn (updatedReply (ask b else Updated.Refused (by 4 []) s then Updated.Wrote due (updated s piece))) in
+          let none : _≡_ {A = ℕ} 0 4 = sym (ap told fits) ∙ n in
           omega (arith, none)
 
   -- the bytes behind those that are counted hold what they held
