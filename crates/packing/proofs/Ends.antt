@@ -33,10 +33,10 @@ use Rattle.packing.specs.declared.sequence.Encoded.{Encoded}
 use Rattle.packing.specs.declared.range.Range.{Range}
 use Rattle.packing.specs.Encode.{digitOf, digitsOf, packing, firstFrom, badIn, badFrom, bothBad, unlessBad}
 use Rattle.packing.specs.Encode.{encodeBy, encodeAt, encodeWrites, encodeMemory, packsBy, freshEncoder, soundFirst, soundCount, soundBad, soundEncoder, startEncoderAt}
-use Rattle.packing.specs.Encode.{pieceBits, pieceBitCount, updated, updateAt, dueAt, updateWrites, updateMemory}
+use Rattle.packing.specs.Encode.{pieceBits, pieceBitCount, updated, updateAt, updateWrites, updateMemory}
 use Rattle.packing.specs.Encode.{finalizeRest, finalizeAt, finalizeWrites, finalizeMemory}
 use Rattle.packing.specs.Range.{rangeAt}
-use Rattle.packing.specs.Run.{Pends, ran, leftOver}
+use Rattle.packing.specs.Run.{dueAt, Pends, ran, leftOver}
 use Rattle.packing.proofs.Padded.{last-byte}
 
 -- ---- byte ranges

@@ -20,7 +20,6 @@ use Rattle.packing.specs.declared.bad.Bad.{Bad}
 use Rattle.packing.specs.declared.encoder.SequenceEncoder.{SequenceEncoder}
 use Rattle.packing.specs.declared.encoder.EncoderStarted.{EncoderStarted}
 use Rattle.packing.specs.declared.encoder.Updated.{Updated}
-use Rattle.packing.specs.declared.encoder.Due.{Due}
 use Rattle.packing.specs.declared.encoder.Finalized.{Finalized}
 use Rattle.packing.specs.declared.sequence.Encoded.{Encoded}
 
@@ -160,13 +159,6 @@ updateAt s piece room =
     ask inBounds (s .seen + length piece) else Updated.Refused (by 2 []) s then
     ask leb (pieceBitCount s (length piece) / 8) room else Updated.Refused (by 4 []) s then
     Updated.Wrote (pieceBitCount s (length piece) / 8) (updated s piece)
-
--- of a piece of `len` symbols behind a sound state, what is left to be asked: the bytes that it completes, or the refusal
-unfoldable pub dueAt : SequenceEncoder → ℕ → ℕ → Due
-dueAt s len room =
-    ask inBounds (s .seen + len) else Due.Refused (by 2 []) then
-    ask leb (pieceBitCount s len / 8) room else Due.Refused (by 4 []) then
-    Due.Bytes (pieceBitCount s len / 8)
 
 -- the bytes that an answer writes: the first whole bytes at hand
 unfoldable pub updateWrites : SequenceEncoder → List ℕ → Updated → List ℕ

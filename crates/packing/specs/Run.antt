@@ -1,18 +1,29 @@
--- What a run over a text is handed, and what comes of it: digits of b bits behind bits that pend. The public calls' definitions are in Encode.antt; this is the
--- contract between them and the loops, which know a table and no alphabet. Of request A1 the search and the count alone know: which bytes stand for bases goes by the choice.
+-- What the functions within the crate are handed, and what comes of them: of a run over a text, digits of b bits behind bits that pend. The public calls' definitions are
+-- in Encode.antt; this is the contract between them and the loops, which know a table and no alphabet. Of request A1 the search and the count alone know: which bytes
+-- stand for bases goes by the choice.
 use Prim.Native.Nat.{ℕ, _+_, _*_, _/_, _%_, _^_, _≤_, _<_}
 use mathlib.Core.Path.{_≡_}
 use mathlib.Core.Bool.{Bool, true, cond}
-use mathlib.Core.List.{List, map}
+use mathlib.Core.List.{List, [], map}
 use lib.Dec.{leb, ltb}
 use lib.ListN.{length}
 use Rattle.bits.specs.Tables.{at}
 use Rattle.bits.specs.Streams.{word, cut}
 use Rattle.bits.specs.Packing.{atHand}
 use Rattle.bits.specs.Memory.{front}
-use Rattle.alphabet.specs.Questions.{limit}
+use Rattle.alphabet.specs.Questions.{ask_else_then_, by, limit, inBounds}
 use Rattle.alphabet.specs.Symbols.{Coding, canon}
 use Rattle.alphabet.specs.Bases.{base}
+use Rattle.packing.specs.declared.encoder.SequenceEncoder.{SequenceEncoder}
+use Rattle.packing.specs.declared.encoder.Due.{Due}
+use Rattle.packing.specs.Encode.{pieceBitCount}
+
+-- what is asked of a piece of `len` symbols once the state is known to be sound, for `ask` and `update`: the bytes that it completes, or the refusal
+unfoldable pub dueAt : SequenceEncoder → ℕ → ℕ → Due
+dueAt s len room =
+    ask inBounds (s .seen + len) else Due.Refused (by 2 []) then
+    ask leb (pieceBitCount s len / 8) room else Due.Refused (by 4 []) then
+    Due.Bytes (pieceBitCount s len / 8)
 
 -- p bits of value a pend, and n digits of b bits come behind them
 pub record Pends (b p a n : ℕ) : Type 0 where

@@ -23,8 +23,8 @@ ghost use Prim.Native.Nat.{_+_, _≤_};
 ghost use lib.ListN.{length};
 ghost use Rattle.bits.specs.Tables.{tabulate};
 ghost use Rattle.alphabet.specs.Questions.{limit};
-ghost use Rattle.packing.specs.Encode.{packsBy, soundBad, soundEncoder, startEncoderAt, badFrom, updated, dueAt, updateAt, updateMemory, finalizeAt, finalizeMemory};
-ghost use Rattle.packing.specs.Run.{entryOf};
+ghost use Rattle.packing.specs.Encode.{packsBy, soundBad, soundEncoder, startEncoderAt, badFrom, updated, updateAt, updateMemory, finalizeAt, finalizeMemory};
+ghost use Rattle.packing.specs.Run.{entryOf, dueAt};
 ghost use Rattle.alphabet.specs.Symbols.{codingBy};
 
 // The state between pieces: `seen` symbols so far, of which `bits` bits, of value `pending`, fill no byte yet; the non-members among them. Whether lowercase
@@ -180,11 +180,11 @@ impl SequenceEncoder {
             Due::Refused(refusal) => Updated::Refused(refusal, self),
             Due::Bytes(count) => {
                 let kind = self.alphabet;
-                let mut table = [INVALID_CODE; 256];
-                lay_codes(kind, &mut table);
-                fold_entries(has_effect(self.fold, kind), &mut table);
-                let found = bad_from(kind, self.fold, &table, self.seen, piece);
-                Updated::Wrote(count, self.next(&table, piece, found))
+                let mut entries = [INVALID_CODE; 256];
+                lay_codes(kind, &mut entries);
+                fold_entries(has_effect(self.fold, kind), &mut entries);
+                let found = bad_from(kind, self.fold, &entries, self.seen, piece);
+                Updated::Wrote(count, self.next(&entries, piece, found))
             }
         }
     }
