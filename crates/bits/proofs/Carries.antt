@@ -32,6 +32,13 @@ one-carried x y =
     go (suc zero) (suc (suc t)) u h l e = absurd (omega arith)
     go (suc (suc s)) t u h l e = absurd (omega arith)
 
+-- no bit in common with what stands above the p lowest bits
+above : (p z w m : ℕ) → w < 2 ^ p → bitAnd (z * 2 ^ p + w) (m * 2 ^ p) ≡ 0 → bitAnd z m ≡ 0
+above p z w m h e =
+    let none : bitAnd z m * 2 ^ p + bitAnd w 0 ≡ 0 =
+    sym (ap (bitAnd (z * 2 ^ p + w)) (sym (add-zero (m * 2 ^ p))) ∙ and-block p z m w 0 h (pow-pos p)) ∙ e in
+    sym (high (bitAnd z m) p (pow-pos p)) ∙ ap (λ (x : ℕ). x / 2 ^ p) (omega (arith, none)) ∙ high 0 p (pow-pos p)
+
 -- fields of suc k bits, and a number d that fits one
 module _ (k d : ℕ) (fits : d < 2 ^ suc k) where
   abbrev b : ℕ
@@ -45,13 +52,6 @@ module _ (k d : ℕ) (fits : d < 2 ^ suc k) where
       ap (λ (z : ℕ). bitXor (bitXor (u * 2 ^ b + l) z) (t * 2 ^ b + d)) (sym (split x b))
       ∙ ap (λ (z : ℕ). bitXor z (t * 2 ^ b + d)) (xor-block b u (x / 2 ^ b) l (x % 2 ^ b) h low)
       ∙ xor-block b (bitXor u (x / 2 ^ b)) t (bitXor l (x % 2 ^ b)) d (xor-lt b l (x % 2 ^ b) h low) fits
-
-  -- no bit in common with fields above the lowest one
-  above : (z w m : ℕ) → w < 2 ^ b → bitAnd (z * 2 ^ b + w) (m * 2 ^ b) ≡ 0 → bitAnd z m ≡ 0
-  above z w m h e =
-      let none : bitAnd z m * 2 ^ b + bitAnd w 0 ≡ 0 =
-      sym (ap (bitAnd (z * 2 ^ b + w)) (sym (add-zero (m * 2 ^ b))) ∙ and-block b z m w 0 h (pow-pos b)) ∙ e in
-      sym (high (bitAnd z m) b (pow-pos b)) ∙ ap (λ (x : ℕ). x / 2 ^ b) (omega (arith, none)) ∙ high 0 b (pow-pos b)
 
   -- nor then without the lowest bit of the lowest one
   without : (z m : ℕ) → bitAnd z (m * 2 ^ b + 1) ≡ 0 → bitAnd z (m * 2 ^ b) ≡ 0
@@ -80,7 +80,7 @@ module _ (k d : ℕ) (fits : d < 2 ^ suc k) where
       -- what the fields above the lowest one say
       rest : (u l : ℕ) → l < 2 ^ b → x + (t * 2 ^ b + d) ≡ u * 2 ^ b + l → bitAnd (bitXor (bitXor u y) t) (inEach b 1 n * 2 ^ b + 1) ≡ 0
       rest u l small sum =
-          above (bitXor (bitXor u y) t) (bitXor (bitXor l c) d) (inEach b 1 n * 2 ^ b + 1)
+          above b (bitXor (bitXor u y) t) (bitXor (bitXor l c) d) (inEach b 1 n * 2 ^ b + 1)
           (xor-lt b (bitXor l c) d (xor-lt b l c small (mod-lt x (pow-pos b))) fits)
           (ap (λ (z : ℕ). bitAnd z ((inEach b 1 n * 2 ^ b + 1) * 2 ^ b))
           (sym (ap (λ (z : ℕ). bitXor (bitXor z x) (t * 2 ^ b + d)) sum ∙ parts x u l t small))
@@ -104,3 +104,21 @@ module _ (k d : ℕ) (fits : d < 2 ^ suc k) where
           and-mod (bitXor (bitXor (y + t + 1) y) t) (inEach b 1 n * 2 ^ b + 1) 1
           ∙ ap₂ bitAnd (one-carried y t) (block-odd (inEach b 1 n) k 1) in
           absurd (omega (arith, none, odd))
+
+  -- the same of n fields above the p lowest bits, in whose sum nothing else changes
+  pub no-carry-above : (p n x : ℕ) → bitAnd (carried x (inEach b d n * 2 ^ p)) (inEach b 1 n * 2 ^ b * 2 ^ p) ≡ 0
+      → (i : ℕ) → i < n → x / 2 ^ (p + i * b) % 2 ^ b + d < 2 ^ b
+  no-carry-above p n x e i h =
+      let y : ℕ = x / 2 ^ p in
+      let l : ℕ = x % 2 ^ p in
+      let t : ℕ = inEach b d n in
+      let low : l < 2 ^ p = mod-lt x (pow-pos p) in
+      let sum : x + t * 2 ^ p ≡ (y + t) * 2 ^ p + l = omega (arith, split x p, add-mul y t (2 ^ p)) in
+      let parts : carried x (t * 2 ^ p) ≡ carried y t * 2 ^ p + bitXor (bitXor l l) 0 =
+      ap₂ (λ (u v : ℕ). bitXor (bitXor u v) (t * 2 ^ p)) sum (sym (split x p))
+      ∙ ap₂ bitXor (xor-block p (y + t) y l l low low) (sym (add-zero (t * 2 ^ p)))
+      ∙ xor-block p (bitXor (y + t) y) t (bitXor l l) 0 (xor-lt p l l low low) (pow-pos p) in
+      let none : bitAnd (carried y t) (inEach b 1 n * 2 ^ b) ≡ 0 =
+      above p (carried y t) (bitXor (bitXor l l) 0) (inEach b 1 n * 2 ^ b) (xor-lt p (bitXor l l) 0 (xor-lt p l l low low) (pow-pos p))
+      (ap (λ (z : ℕ). bitAnd z (inEach b 1 n * 2 ^ b * 2 ^ p)) (sym parts) ∙ e) in
+      rw (← shr-shr x p (i * b)) (no-carry n y none i h)

@@ -17,6 +17,8 @@ pub use streaming::StreamingDecoder;
 pub use windows::Read;
 pub use windows::decode_2bit;
 pub use windows::decode_3bit;
+pub use windows::decode_4bit;
+pub use windows::decode_5bit;
 pub use windows::decode_covered;
 pub use windows::decode_rolling;
 pub use windows::decode_string_from_bytes;

@@ -23,6 +23,8 @@ pub use kinds::fc_display_name;
 pub use kinds::fc_later_alphabet;
 pub use reads::fc_decode_2bit;
 pub use reads::fc_decode_3bit;
+pub use reads::fc_decode_4bit;
+pub use reads::fc_decode_5bit;
 pub use reads::fc_decode_covered;
 pub use reads::fc_decode_rolling;
 pub use reads::fc_decode_string_from_bytes;

@@ -6,6 +6,8 @@ use crate::shapes::number_of;
 use windows::Read;
 use windows::decode_2bit;
 use windows::decode_3bit;
+use windows::decode_4bit;
+use windows::decode_5bit;
 use windows::decode_covered;
 use windows::decode_rolling;
 use windows::decode_string_from_bytes;
@@ -156,4 +158,34 @@ pub extern "C" fn fc_decode_3bit(
     ensures memory { λ _. ⌜ now (out .exit) ≡ readMemory 1 (now (bytes .entry)) «byte_offset» start end (now (out .entry)) ⌝ }
 {
     count_of(decode_3bit(bytes, byte_offset, start, end, out))
+}
+
+// The engine of DnaIupac.
+#[no_mangle]
+pub extern "C" fn fc_decode_4bit(
+    bytes: &[u8],
+    byte_offset: usize,
+    start: usize,
+    end: usize,
+    out: &mut [u8],
+) -> Count
+    ensures { λ r. ⌜ r ≡ count (readReply (readAt 2 «byte_offset» start end (length (now (out .entry))))) ⌝ }
+    ensures memory { λ _. ⌜ now (out .exit) ≡ readMemory 2 (now (bytes .entry)) «byte_offset» start end (now (out .entry)) ⌝ }
+{
+    count_of(decode_4bit(bytes, byte_offset, start, end, out))
+}
+
+// The engine of Protein.
+#[no_mangle]
+pub extern "C" fn fc_decode_5bit(
+    bytes: &[u8],
+    byte_offset: usize,
+    start: usize,
+    end: usize,
+    out: &mut [u8],
+) -> Count
+    ensures { λ r. ⌜ r ≡ count (readReply (readAt 3 «byte_offset» start end (length (now (out .entry))))) ⌝ }
+    ensures memory { λ _. ⌜ now (out .exit) ≡ readMemory 3 (now (bytes .entry)) «byte_offset» start end (now (out .entry)) ⌝ }
+{
+    count_of(decode_5bit(bytes, byte_offset, start, end, out))
 }

@@ -18,7 +18,7 @@ use Rattle.windows.specs.Window.{readAt, readMemory, coveredAt, coveredMemory}
 use Rattle.windows.proofs.Given.{Serves, read-told, read-left, covered-told, covered-left}
 use Rattle.record.specs.Texts.{Members, Packed}
 use Rattle.record.specs.EncoderLists.{EncoderList, alphabetIn, foldIn, codingIn, textIn, bytesIn}
-use Rattle.record.specs.Decoders.{Window, Lent, DecoderCall, at-offset, substring, string, covered, two-bit, three-bit, rolling, Handed, handed, SetTo, Set, Gives}
+use Rattle.record.specs.Decoders.{Window, Lent, DecoderCall, at-offset, substring, string, covered, two-bit, three-bit, four-bit, five-bit, rolling, Handed, handed, SetTo, Set, Gives}
 use Rattle.record.proofs.Alike.{member-digit}
 use Rattle.record.proofs.Encoders.{list-packs}
 
@@ -113,4 +113,6 @@ module _ (l : EncoderList) (w : Window l) where
   gives (covered c) set = covering (handed (covered c)) (w .from) (omega arith) set (c .met .0) (c .met .1)
   gives (two-bit c) set = zero-filling (handed (two-bit c)) (w .from) (omega arith) set (c .met .0) (c .met .1)
   gives (three-bit c) set = zero-filling (handed (three-bit c)) (w .from) (omega arith) set (c .met .0) (c .met .1)
+  gives (four-bit c) set = zero-filling (handed (four-bit c)) (w .from) (omega arith) set (c .met .0) (c .met .1)
+  gives (five-bit c) set = zero-filling (handed (five-bit c)) (w .from) (omega arith) set (c .met .0) (c .met .1)
   gives (rolling c) set = zero-filling (handed (rolling c)) (w .from) (omega arith) set (c .met .0) (c .met .1)

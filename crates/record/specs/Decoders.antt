@@ -10,11 +10,11 @@ use Rattle.bits.specs.Tables.{at}
 use Rattle.bits.specs.Streams.{bitAt}
 use Rattle.bits.specs.Packing.{fileByte}
 use Rattle.bits.specs.Memory.{front}
-use Rattle.alphabet.specs.declared.kind.AlphabetType.the-variants.{Dna2bit, Dna3bit}
+use Rattle.alphabet.specs.declared.kind.AlphabetType.the-variants.{Dna2bit, Dna3bit, DnaIupac, Protein}
 use Rattle.alphabet.specs.Names.{numberOf}
 use Rattle.packing.specs.declared.range.Range.{Range}
 use Rattle.windows.specs.declared.read.Read.{Read}
-use Rattle.record.specs.Made.{RangeCall, AtOffsetCall, SubstringCall, StringCall, CoveredCall, TwoBitCall, ThreeBitCall, RollingCall}
+use Rattle.record.specs.Made.{RangeCall, AtOffsetCall, SubstringCall, StringCall, CoveredCall, TwoBitCall, ThreeBitCall, FourBitCall, FiveBitCall, RollingCall}
 use Rattle.record.specs.EncoderLists.{EncoderList, alphabetIn, codingIn, Finished, textIn, bytesIn}
 
 -- ---- a window
@@ -52,6 +52,8 @@ pub data DecoderCall : Type 0 where
   covered : CoveredCall → DecoderCall
   two-bit : TwoBitCall → DecoderCall
   three-bit : ThreeBitCall → DecoderCall
+  four-bit : FourBitCall → DecoderCall
+  five-bit : FiveBitCall → DecoderCall
   rolling : RollingCall → DecoderCall
 
 -- what it is handed, what it answers, and its memory afterwards
@@ -92,6 +94,14 @@ handed (three-bit c) =
     let (bytes, («byte_offset», (start, (end, (out, _))))) = c .args in
     let (_, (_, (_, (_, (after, _))))) = c .exit in
     record { alphabet = numberOf Dna3bit; lent = now bytes; offset = «byte_offset»; start = start; end = end; memory = now out; result = c .result; afterwards = now after }
+handed (four-bit c) =
+    let (bytes, («byte_offset», (start, (end, (out, _))))) = c .args in
+    let (_, (_, (_, (_, (after, _))))) = c .exit in
+    record { alphabet = numberOf DnaIupac; lent = now bytes; offset = «byte_offset»; start = start; end = end; memory = now out; result = c .result; afterwards = now after }
+handed (five-bit c) =
+    let (bytes, («byte_offset», (start, (end, (out, _))))) = c .args in
+    let (_, (_, (_, (_, (after, _))))) = c .exit in
+    record { alphabet = numberOf Protein; lent = now bytes; offset = «byte_offset»; start = start; end = end; memory = now out; result = c .result; afterwards = now after }
 handed (rolling c) =
     let (alphabet, (bytes, («byte_offset», (start, (end, (out, _)))))) = c .args in
     let (_, (_, (_, (_, (_, (after, _)))))) = c .exit in
@@ -105,6 +115,8 @@ takesOffset (string c) = false
 takesOffset (covered c) = true
 takesOffset (two-bit c) = true
 takesOffset (three-bit c) = true
+takesOffset (four-bit c) = true
+takesOffset (five-bit c) = true
 takesOffset (rolling c) = true
 
 -- a call set to a window: by its list's alphabet, from s to e, lent the bytes of the range, or from 0 to its end where byte_offset is fixed at 0, and given

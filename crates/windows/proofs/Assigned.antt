@@ -9,7 +9,7 @@ use native.Mathlib.Omega.{arith}
 use borrow.Author.Tests.{leb-true, le-leb, lt-leb, lt-ltb, le-ltb}
 use lib.Dec.{leb}
 use lib.ListN.{length}
-use lib.Pow.{pow-mono}
+use lib.Pow.{pow-mono, shr-shr}
 use Rattle.bits.specs.Tables.{tabulate, at}
 use Rattle.bits.specs.Streams.{bitAt, word, cut}
 use Rattle.bits.specs.Memory.{putAt}
@@ -21,7 +21,7 @@ use Rattle.bits.proofs.Files.{word-lent}
 use Rattle.bits.proofs.Blocks.{word-field}
 use Rattle.alphabet.specs.Symbols.{Coding, coding}
 use Rattle.alphabet.specs.declared.kind.AlphabetType.{AlphabetType}
-use Rattle.alphabet.specs.declared.kind.AlphabetType.the-variants.{Dna2bit, Dna3bit, DnaIupac, Protein, Ascii, Unknown}
+use Rattle.alphabet.specs.declared.kind.AlphabetType.the-variants.{Protein}
 use Rattle.alphabet.proofs.Laws.{Lawful, widths, every-assigned, protein-assigned}
 use Rattle.windows.specs.Window.{window, covers, assignedFront, firstLacking, allAssigned}
 use Rattle.windows.specs.Workers.{Near, Lent, Passes, firstLooked, lookedMemory}
@@ -218,15 +218,6 @@ others-assigned k other lent offset start end = go (decLt start end)
 
 -- ---- Protein's codes, five bits each
 
--- no other alphabet has them
-pub of-five-bits : (k : AlphabetType) → coding k .width ≡ 5 → k ≡ Protein
-of-five-bits Dna2bit e = absurd (omega (arith, widths .of-dna2bit))
-of-five-bits Dna3bit e = absurd (omega (arith, widths .of-dna3bit))
-of-five-bits DnaIupac e = absurd (omega (arith, widths .of-dnaIupac))
-of-five-bits Protein e = refl
-of-five-bits Ascii e = absurd (omega (arith, widths .of-ascii))
-of-five-bits Unknown e = absurd (omega (arith, widths .of-unknown))
-
 -- a covered window's bytes are lent, and so are those of the rest of it
 pub covered-lent : {lent : List ℕ} {offset start end : ℕ} → Near start end → covers (coding Protein) lent offset start end ≡ true → Lent lent offset start end
 unfolding covers
@@ -272,18 +263,20 @@ module _ (lent : List ℕ) (offset : ℕ) where
     pub shifted-fits : i * 5 - first * 8 + n * 5 ≤ 62 → x / 2 ^ r < 2 ^ 62
     shifted-fits h = rw shifted (lt-of-lt-of-le (word-lt bits (bit-lt 8 (fileByte lent offset)) (first * 8) (q + n * 5)) (pow-mono h))
 
-    -- where the eleven lowest fields are below 29, all are symbols'
-    pub eleven : n ≤ 11 → ((j : ℕ) → j < 11 → x / 2 ^ r / 2 ^ (j * 5) % 2 ^ 5 < 29)
+    -- where the eleven fields above those bits, of which v are shifted out and p passed over, are below 29, all are symbols'
+    pub eleven : (v p : ℕ) → v + p ≡ r → n ≤ 11 → ((j : ℕ) → j < 11 → x / 2 ^ v / 2 ^ (p + j * 5) % 2 ^ 5 < 29)
         → (t : ℕ) → t < n → coding Protein .assigned (codeAt (coding Protein) lent offset (i + t)) ≡ true
-    eleven few small t h =
+    eleven v p sum few small t h =
         let u : ℕ = n - 1 - t in
+        let place : v + (p + u * 5) ≡ r + u * 5 = omega (arith, sum) in
+        let field : x / 2 ^ v / 2 ^ (p + u * 5) ≡ x / 2 ^ r / 2 ^ (u * 5) = shr-shr x v (p + u * 5) ∙ ap (λ (k : ℕ). x / 2 ^ k) place ∙ sym (shr-shr x r (u * 5)) in
         let whole : q + n * 5 ≡ q + t * 5 + 5 + u * 5 = omega arith in
         let here : first * 8 + (q + t * 5) ≡ (i + t) * 5 = omega arith in
         let code : x / 2 ^ r / 2 ^ (u * 5) % 2 ^ 5 ≡ word bits ((i + t) * 5) 5 =
         ap (λ (y : ℕ). y / 2 ^ (u * 5) % 2 ^ 5) (shifted ∙ ap (word bits (first * 8)) whole)
         ∙ word-field bits (bit-lt 8 (fileByte lent offset)) (first * 8) (q + t * 5) 5 (u * 5)
         ∙ ap (λ (k : ℕ). word bits k 5) here in
-        protein-has (i + t) (rw (← code) (small u (omega arith)))
+        protein-has (i + t) (rw (← code, ← field) (small u (omega arith)))
 
 -- ---- a window that is looked at, or not, and written where no such base was found
 
@@ -303,11 +296,21 @@ pub unlooked : (A : Coding) (lent : List ℕ) (offset start count : ℕ) (memory
     → lookedMemory false A lent offset start count memory ≡ putAt 0 (window A lent offset start count) memory
 unlooked A lent offset start count memory = looked-put false A lent offset start count memory (start + count) refl (omega arith)
 
--- nor is there such a base in an alphabet of another width than Protein's
-pub other-width : (k : AlphabetType) (w : ℕ) → coding k .width ≡ w → (w ≡ 5 → ⊥) → k ≡ Protein → ⊥
-other-width k w is not-five e = not-five (sym is ∙ ap (λ (x : AlphabetType). coding x .width) e ∙ widths .of-protein)
-
+-- nor is there such a base in another alphabet than Protein
 pub looked-others : (look : Bool) (k : AlphabetType) → (k ≡ Protein → ⊥) → (lent : List ℕ) (offset start end : ℕ) → start ≤ end
     → end ≡ firstLooked look (coding k) lent offset start end
 looked-others true k other lent offset start end h = sym (lacking-none (coding k) lent offset (others-pass k other lent offset start end h))
 looked-others false k other lent offset start end h = refl
+
+-- by an engine of such an alphabet all is written
+module _ (look : Bool) (k kind : AlphabetType) (lent : List ℕ) (offset start count : ℕ) (memory out : List ℕ) where
+  pub written-whole : kind ≡ k → (k ≡ Protein → ⊥) → out ≡ putAt 0 (window (coding k) lent offset start count) memory
+      → (start + count ≡ firstLooked look (coding kind) lent offset start (start + count)) × (out ≡ lookedMemory look (coding kind) lent offset start count memory)
+  written-whole is other put =
+      let end : ℕ = start + count in
+      let found : end ≡ firstLooked look (coding kind) lent offset start end = looked-others look kind (λ e. other (sym is ∙ e)) lent offset start end (omega arith) in (
+        found,
+        put
+            ∙ ap (λ (x : AlphabetType). putAt 0 (window (coding x) lent offset start count) memory) (sym is)
+            ∙ sym (looked-put look (coding kind) lent offset start count memory end found (omega arith)),
+      )

@@ -1,3 +1,4 @@
+pub mod Choices
 pub mod Windows
 pub mod Assigned
 pub mod Turns

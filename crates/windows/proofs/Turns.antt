@@ -55,6 +55,11 @@ module _ (A : Coding) (lent : List ℕ) (offset : ℕ) where
         put-one (from + n) v out (omega (arith, written-length (omega arith)))
         ∙ more-written 1 (v ∷ []) room (ap (λ (x : ℕ). x ∷ []) e ∙ sym (window-one A lent offset (start + n)))
 
+-- the same by a table and a width, for any alphabet that has these: an invariant cannot name the kind
+abbrev pub TableWritten : (table : List ℕ) (b : ℕ) (lent : List ℕ) (offset from start n : ℕ) (memory out : List ℕ) → Type 0
+TableWritten table b lent offset from start n memory out =
+    (A : Coding) → A .width ≡ b → table ≡ tabulate 32 (A .symbol) → Written A lent offset from start n memory out
+
 -- ---- what is decoded
 
 -- the table's entry at a code of a file is the base

@@ -4,7 +4,7 @@ use mathlib.Core.Bool.{false}
 use mathlib.Core.List.{List, [], _∷_, map}
 use mathlib.Core.Logic.{⊎-elim}
 use Prim.Native.Nat.{ℕ, suc, _+_, _-_, _*_, _/_, _%_, _^_, _≤_, _<_, min}
-use native.Mathlib.Nat.{zero-add, add-zero, add-assoc, add-mul, one-mul, mul-assoc, suc-mul, mul-le-mul-right, le-of-eq, lt-of-lt-of-le, mod-lt, mod-self, mod-eq-of-lt}
+use native.Mathlib.Nat.{zero-add, zero-mul, add-zero, add-assoc, add-mul, one-mul, mul-assoc, suc-mul, mul-le-mul-right, le-of-eq, lt-of-lt-of-le, mod-lt, mod-self, mod-eq-of-lt}
 use native.Mathlib.Nat.{div-add-mod', div-mul-le-self, mul-div-cancel}
 use native.Mathlib.Decide.{decLt}
 use native.Mathlib.Omega.{arith}
@@ -18,7 +18,7 @@ use Rattle.bits.proofs.Tabulated.{length-tabulate, tabulate-ext, getD-tabulate,
 use Rattle.bits.proofs.Words.{word-lt, bit-lt}
 use Rattle.bits.proofs.Shifts.{push-byte-is, code-lt}
 use Rattle.bits.proofs.Put.{Filled, none-filled, more-filled, put-none, put-one, put-put}
-use Rattle.bits.proofs.Blocks.{block-codes, cut-fields, word-byte, word-bytes, word-field}
+use Rattle.bits.proofs.Blocks.{block-codes, aligned-codes, cut-fields, word-byte, word-bytes, two-bytes}
 use Rattle.bits.proofs.Files.{file-before, file-lent, file-past, file-small, word-lent}
 use Rattle.alphabet.specs.Symbols.{Coding, coding}
 use Rattle.alphabet.specs.declared.kind.AlphabetType.{AlphabetType}
@@ -26,33 +26,31 @@ use Rattle.alphabet.proofs.Laws.{Plain, shape}
 use Rattle.windows.specs.Window.{window}
 use Rattle.windows.specs.Workers.{Decodes, symbolsOf, stretch, fileBytes}
 use Rattle.windows.proofs.Windows.{baseAt, window-bases, map-tabulate}
-use Rattle.windows.proofs.Turns.{Written, more-written, entry}
+use Rattle.windows.proofs.Turns.{Written, none-written, more-written, entry}
 
--- ---- blocks: c bases, b bits wide, that fill n bytes
+-- ---- blocks: c bases that fill n bytes
 
--- c bases, of which the first begins with byte j
+-- where the first begins with byte j
 window-block : (A : Coding) (lent : List ℕ) (offset c n i j : ℕ) → i * A .width ≡ j * 8 → c * A .width ≡ n * 8
     → window A lent offset i c ≡ symbolsOf A c (word (bitAt 8 (fileByte lent offset)) (j * 8) (n * 8))
 unfolding window codesFrom symbolsOf
-window-block A lent offset c n i j first whole = ap (map (A .symbol)) (block-codes (fileByte lent offset) (A .width) c n i j first whole)
+window-block A lent offset c n i j first whole = ap (map (A .symbol)) (aligned-codes (fileByte lent offset) (A .width) c n i j first whole)
 
-module _ (A : Coding) (lent : List ℕ) (offset c n : ℕ) (whole : c * A .width ≡ n * 8) (first m : ℕ) where
-  abbrev place : ℕ
-  place = (first + m) * n
+module _ (A : Coding) (lent : List ℕ) (offset c n : ℕ) (whole : c * A .width ≡ n * 8) where
+  -- where the first begins anywhere, and its bytes and the next one are lent: v is the number that these write
+  pub block-of-lent : (i j skip v : ℕ) → i * A .width ≡ j * 8 + skip → skip ≤ 8 → offset ≤ j → v ≡ word (bitAt 8 (at lent)) ((j - offset) * 8) ((n + 1) * 8)
+      → symbolsOf A c (v / 2 ^ (8 - skip)) ≡ window A lent offset i c
+  unfolding window codesFrom symbolsOf
+  block-of-lent i j skip v begins h l e =
+      let all : skip + c * A .width + (8 - skip) ≡ (n + 1) * 8 = omega (arith, whole) in
+      ap (λ (x : ℕ). map (A .symbol) (fields (A .width) c (x / 2 ^ (8 - skip)))) (e ∙ sym (word-lent lent offset j ((n + 1) * 8) l))
+      ∙ sym (ap (map (A .symbol)) (block-codes (fileByte lent offset) (A .width) c (n + 1) i j skip (8 - skip) begins all))
 
-  -- block m of those from block `first` on
-  block-at : window A lent offset (first * c + m * c) c ≡ symbolsOf A c (word (bitAt 8 (fileByte lent offset)) (place * 8) (n * 8))
-  block-at =
-      let begins : (first * c + m * c) * A .width ≡ place * 8 =
-      ap (λ (x : ℕ). x * A .width) (sym (add-mul first m c))
-      ∙ mul-assoc (first + m) c (A .width)
-      ∙ ap (λ (x : ℕ). (first + m) * x) whole
-      ∙ sym (mul-assoc (first + m) n 8) in
-      window-block A lent offset c n (first * c + m * c) place begins whole
-
-  -- the same where its bytes are lent
-  pub block-of-lent : (v : ℕ) → offset ≤ place → v ≡ word (bitAt 8 (at lent)) ((place - offset) * 8) (n * 8) → symbolsOf A c v ≡ window A lent offset (first * c + m * c) c
-  block-of-lent v h e = ap (symbolsOf A c) (e ∙ sym (word-lent lent offset place (n * 8) h)) ∙ sym block-at
+  -- block m begins at the bit of its byte at which the first one does
+  pub next-block : (start first skip m : ℕ) → start * A .width ≡ first * 8 + skip → (start + m * c) * A .width ≡ (first + m * n) * 8 + skip
+  next-block start first skip m e =
+      let bytes : m * c * A .width ≡ m * n * 8 = mul-assoc m c (A .width) ∙ ap (λ (x : ℕ). m * x) whole ∙ sym (mul-assoc m n 8) in
+      add-mul start (m * c) (A .width) ∙ omega (arith, e, bytes)
 
 -- a block in one byte
 pub block-of-byte : (A : Coding) (lent : List ℕ) (offset c : ℕ) → Bytes lent → c * A .width ≡ 8 → (i j : ℕ) → i * A .width ≡ j * 8
@@ -72,35 +70,18 @@ base-of-byte A lent offset c bytes whole some i =
 
 -- ---- a byte's worth of bases that begins anywhere
 
--- eight bits, the first `skip` bits behind the beginning of byte j
-across : (byte : ℕ → ℕ) → ((k : ℕ) → byte k < 256) → (j skip : ℕ) → skip ≤ 8 → (byte j * 256 + byte (j + 1)) / 2 ^ (8 - skip) % 256 ≡ word (bitAt 8 byte) (j * 8 + skip) 8
-across byte small j skip h =
-    let s : ℕ → ℕ = bitAt 8 byte in
-    let sum : 1 * 8 + 8 ≡ skip + 8 + (8 - skip) = omega arith in
-    ap (λ (x : ℕ). (x * 256 + byte (j + 1)) / 2 ^ (8 - skip) % 256) (sym (word-byte byte small j))
-    ∙ ap (λ (x : ℕ). x / 2 ^ (8 - skip) % 256) (sym (word-bytes byte small j 1) ∙ ap (word s (j * 8)) sum)
-    ∙ word-field s (bit-lt 8 byte) (j * 8) skip 8 (8 - skip)
-
 -- c bases that fill eight bits, from base i on: of x, their byte, and y, the next one, which may be any where the first base begins with its byte
 module _ (A : Coding) (lent : List ℕ) (offset c i j skip x y : ℕ) (bytes : Bytes lent) (whole : c * A .width ≡ 8) (begins : i * A .width ≡ j * 8 + skip) (h : skip < 8) where
   abbrev byte : ℕ → ℕ
   byte = fileByte lent offset
 
-  joined-bits : x ≡ byte j → y < 256 → (0 < skip → y ≡ byte (j + 1)) → (x * 256 + y) / 2 ^ (8 - skip) % 256 ≡ word (bitAt 8 byte) (j * 8 + skip) 8
-  joined-bits e small next = go (decLt 0 skip)
-    where
-      go : Dec (0 < skip) → (x * 256 + y) / 2 ^ (8 - skip) % 256 ≡ word (bitAt 8 byte) (j * 8 + skip) 8
-      go (yes l) = ap₂ (λ (u v : ℕ). (u * 256 + v) / 2 ^ (8 - skip) % 256) e (next l) ∙ across byte (λ k. file-small lent offset k bytes) j skip (omega arith)
-      go (no l) =
-          let none : skip ≡ 0 = omega arith in
-          let fit : x < 256 = rw e (file-small lent offset j bytes) in
-          let high : (x * 256 + y) / 256 % 256 ≡ x = omega arith in
-          rw (none, add-zero (j * 8)) (high ∙ e ∙ sym (word-byte byte (λ k. file-small lent offset k bytes) j))
-
   pub window-across : x ≡ byte j → y < 256 → (0 < skip → y ≡ byte (j + 1)) → symbolsOf A c ((x * 256 + y) / 2 ^ (8 - skip) % 256) ≡ window A lent offset i c
   unfolding window codesFrom symbolsOf
   window-across e small next =
-      ap (λ (v : ℕ). map (A .symbol) (fields (A .width) c v)) (joined-bits e small next ∙ ap₂ (word (bitAt 8 byte)) (sym begins) (sym whole))
+      let bits : skip + 8 + (8 - skip) ≡ 16 = omega arith in
+      let run : (x * 256 + y) / 2 ^ (8 - skip) % 256 ≡ word (bitAt 8 byte) (j * 8 + skip) 8 =
+      two-bytes byte (λ k. file-small lent offset k bytes) j skip 8 (8 - skip) x y bits e small (λ l. next (omega arith)) in
+      ap (λ (v : ℕ). map (A .symbol) (fields (A .width) c v)) (run ∙ ap₂ (word (bitAt 8 byte)) (sym begins) (sym whole))
       ∙ sym (ap (map (A .symbol)) (cut-fields (bitAt 8 byte) (bit-lt 8 byte) (A .width) (i * A .width) c))
 
 -- both of lent bytes: of byte k, and of it and the one behind it where bits of that are needed
@@ -120,7 +101,11 @@ module _ (A : Coding) (lent : List ℕ) (offset c i j k : ℕ) (bytes : Bytes le
       window-across A lent offset c i j skip (at lent k) (at lent (k + next)) bytes whole begins h itself (bytes (k + next))
       (λ l. ap (λ (m : ℕ). at lent (k + m)) (one l) ∙ of-file 1)
 
--- blocks written one after another: one more
+-- blocks written one after another: none yet, and one more
+pub no-blocks : (A : Coding) (lent : List ℕ) (offset from start c : ℕ) (memory : List ℕ) → Written A lent offset from start (0 * c) memory memory
+no-blocks A lent offset from start c memory =
+    none-written A lent offset from start memory ∙ ap (λ (n : ℕ). putAt from (window A lent offset start n) memory) (sym (zero-mul c))
+
 pub block-more : (A : Coding) (lent : List ℕ) (offset c from start n : ℕ) (memory out xs : List ℕ) → Written A lent offset from start (n * c) memory out
     → from + n * c + c ≤ length memory → xs ≡ window A lent offset (start + n * c) c
     → Written A lent offset from start ((n + 1) * c) memory (putAt (from + n * c) xs out)
@@ -154,6 +139,14 @@ entries A table b c v decodes width =
     ∙ sym (map-tabulate (A .symbol) f c)
     ∙ ap (λ (w : ℕ). map (A .symbol) (fields w c v)) (sym width)
 
+-- entry t of these
+abbrev pub entryAt : List ℕ → ℕ → ℕ → ℕ → ℕ → ℕ
+entryAt table b c v t = at table (v / 2 ^ ((c - 1 - t) * b) % 2 ^ b)
+
+pub entries-at : (table : List ℕ) (b c v : ℕ) → map (at table) (fields b c v) ≡ tabulate c (entryAt table b c v)
+unfolding fields
+entries-at table b c v = map-tabulate (at table) (λ t. v / 2 ^ ((c - 1 - t) * b) % 2 ^ b) c
+
 -- ---- stores in a row: at place k, at k + 1, and so on
 
 unfoldable pub stores-from : List ℕ → ℕ → ℕ → List ℕ → List ℕ
@@ -179,13 +172,6 @@ pub stored : (xs out : List ℕ) (k : ℕ) → k + length xs ≤ length out → 
 unfolding stores
 stored [] out k h = sym (put-none k out)
 stored (x ∷ xs) out k h = stored-from xs (set out k x) k 1 (simp length-set (omega arith)) ∙ one-more out k x xs (omega arith)
-
--- the table's entries at the codes of a block
-pub block-stored : (A : Coding) (table : List ℕ) (b c v : ℕ) → Decodes A table → A .width ≡ b → (codes out : List ℕ) (k : ℕ) → codes ≡ fields b c v → k + c ≤ length out
-    → stores out k (map (at table) codes) ≡ putAt k (symbolsOf A c v) out
-block-stored A table b c v decodes width codes out k e h =
-    ap (λ (l : List ℕ). stores out k l) (ap (map (at table)) e ∙ entries A table b c v decodes width)
-    ∙ stored (symbolsOf A c v) out k (omega (arith, length-symbols A c v))
 
 -- the entries of a list of c numbers
 pub list-stored : (xs out : List ℕ) (c k : ℕ) → length xs ≡ c → k + c ≤ length out → stores out k (tabulate c (at xs)) ≡ putAt k xs out

@@ -10,9 +10,8 @@ use Rattle.bits.specs.Streams.{bitAt, word, fields}
 use Rattle.bits.specs.Packing.{fileByte, firstByte, endByte}
 use Rattle.bits.specs.Memory.{putAt}
 use Rattle.alphabet.specs.Symbols.{Coding}
-use Rattle.alphabet.specs.Names.{kindOf}
 use Rattle.alphabet.specs.declared.kind.AlphabetType.{AlphabetType}
-use Rattle.alphabet.specs.declared.kind.AlphabetType.the-variants.{Dna2bit, Dna3bit}
+use Rattle.alphabet.specs.declared.kind.AlphabetType.the-variants.{Dna2bit, Dna3bit, DnaIupac, Protein}
 use Rattle.windows.specs.Window.{window, covers, firstLacking}
 use Rattle.windows.specs.declared.read.Engine.{Engine}
 use Rattle.windows.specs.declared.read.Read.{Read}
@@ -57,16 +56,24 @@ lookedMemory look A lent offset start count memory =
 abbrev pub Passed : Read → ℕ → ℕ → Type 0
 Passed answer start room = (n : ℕ) → answer ≡ Read.Bases n → (n ≡ 0 → ⊥) → Fits start n 0 room
 
--- the kind whose symbols an engine writes: that of its own alphabet, or the one that is asked for
-abbrev pub served : Engine → AlphabetType → AlphabetType
-served Engine.Own kind = kind
-served Engine.Fours kind = Dna2bit
-served Engine.Blocks kind = Dna3bit
-served Engine.Any kind = kind
+-- an alphabet that is read in blocks
+pub data InBlocks : AlphabetType → Type 0 where
+  three : InBlocks Dna3bit
+  four : InBlocks DnaIupac
+  five : InBlocks Protein
 
--- an engine writes the symbols of the alphabet that is asked for
-abbrev pub Serves : Engine → ℕ → Type 0
-Serves engine alphabet = served engine (kindOf alphabet) ≡ kindOf alphabet
+-- an engine writes the symbols of a kind: the alphabet's own and the rolling one those of any
+abbrev pub Suits : Engine → AlphabetType → Type 0
+Suits Engine.Own kind = Unit {0}
+Suits Engine.Fours kind = kind ≡ Dna2bit
+Suits Engine.Blocks kind = InBlocks kind
+Suits Engine.Any kind = Unit {0}
+
+-- a block: c codes of an alphabet fill n bytes, and these and one more write a number of at most 64 bits
+pub record Fills (A : Coding) (c n : ℕ) : Type 0 where
+  pub some : 0 < n
+  pub few : n ≤ 7
+  pub whole : c * A .width ≡ n * 8
 
 -- the decoding table of an alphabet whose codes have at most five bits
 pub record Decodes (A : Coding) (table : List ℕ) : Type 0 where

@@ -2,10 +2,10 @@
 // alphabets is a symbol's. A window is looked through before any base of it is written.
 use crate::blocks::number;
 use crate::rolling::code_at;
-use alphabet::AlphabetType;
+use bits::beyond;
 ghost use mathlib.Core.Path.{_≡_};
 ghost use mathlib.Core.Bool.{false};
-ghost use Prim.Native.Nat.{ℕ, _+_, _*_, _/_, _%_, _^_, _<_};
+ghost use Prim.Native.Nat.{ℕ, _+_, _*_, _/_, _%_, _^_, _≤_, _<_};
 ghost use Rattle.alphabet.specs.Symbols.{coding};
 ghost use Rattle.alphabet.specs.declared.kind.AlphabetType.the-variants.{Protein};
 ghost use Rattle.windows.specs.Window.{firstLacking};
@@ -26,29 +26,35 @@ const THREES: u64 = 0xC6318C6318C63;
 // The bits that these carries come to: the lowest of each field but the first, and the one above the last.
 const CARRIES: u64 = 0x84210842108420;
 
-// Whether one of eleven codes, those of a number's low bits, is no symbol's. That it says so of no others is not asked of it: where it does, each is looked at.
-fn lacks(codes: u64) -> bool
-    requires { ⌜ codes < 2 ^ 62 ⌝ }
-    ensures { λ r. ⌜ (r ≡ false → (i : ℕ) → i < 11 → codes / 2 ^ (i * 5) % 2 ^ 5 < 29) ⌝ }
+// Whether one of eleven codes, those of a number above its n low bits, is no symbol's. That it says so of no others is not asked of it: where it does, each is looked
+// at.
+fn lacks(codes: u64, n: usize) -> bool
+    requires { ⌜ (codes < 2 ^ 62) × (n ≤ 7) ⌝ }
+    ensures { λ r. ⌜ (r ≡ false → (i : ℕ) → i < 11 → codes / 2 ^ (n + i * 5) % 2 ^ 5 < 29) ⌝ }
 {
-    ((codes + THREES) ^ codes ^ THREES) & CARRIES != 0
+    let threes = THREES << n;
+    ((codes + threes) ^ codes ^ threes) & (CARRIES << n) != 0
 }
 
-// Passes bases from `start` on whose codes are symbols', eleven at a time, while more are left than that, so that eight bytes are. The answer is the first base
+// Passes bases from `start` on whose codes are symbols', eight at a time, while more than eleven are left, so that eight bytes are. Eight codes fill five bytes, so
+// that each eight begins at the same bit of its byte; the three codes behind them are looked at too, and once more with the next eight. The answer is the first base
 // that was not passed; how far it goes is free.
 fn pass_many(bytes: &[u8], offset: usize, start: usize, end: usize) -> usize
     requires { ⌜ Lent (now bytes) offset start end ⌝ }
     ensures { λ r. ⌜ Passes (coding Protein) (now (bytes .entry)) offset start r end ⌝ }
 {
-    let mut at = start;
-    while MANY < end - at {
-        let bit = at * WIDTH;
-        if lacks(number(bytes, bit / 8 - offset, 8) >> (9 - bit % 8)) {
-            return at;
+    let bit = start * WIDTH;
+    let first = bit / 8 - offset;
+    let above = 7 - bit % 8;
+    let most = beyond(end - start, 4) / 8;
+    let mut n: usize = 0;
+    while n < most {
+        if lacks(number(bytes, first + n * WIDTH, 8) >> 2, above) {
+            return start + n * 8;
         }
-        at += MANY;
+        n += 1;
     }
-    at
+    start + n * 8
 }
 
 // The same for the rest, all at once; where more than eleven bases are left none is passed.
@@ -61,7 +67,10 @@ fn pass_rest(bytes: &[u8], offset: usize, start: usize, end: usize) -> usize
     }
     let first = start * WIDTH / 8;
     let last = (end * WIDTH + 7) / 8;
-    if lacks(number(bytes, first - offset, last - first) >> (last * 8 - end * WIDTH)) {
+    if lacks(
+        number(bytes, first - offset, last - first) >> (last * 8 - end * WIDTH),
+        0,
+    ) {
         return start;
     }
     end
@@ -92,21 +101,11 @@ fn first_in_protein(bytes: &[u8], offset: usize, start: usize, end: usize) -> us
     first_alone(bytes, offset, rest, end)
 }
 
-// The same for any alphabet, where it is looked for at all; else `end`. No other alphabet than Protein has codes of five bits.
-pub fn first_lacking(
-    kind: AlphabetType,
-    look: bool,
-    bytes: &[u8],
-    offset: usize,
-    start: usize,
-    end: usize,
-) -> usize
-    requires { ⌜ Near start end × Looks look (coding kind) (now bytes) offset start end ⌝ }
-    ensures { λ r. ⌜ r ≡ firstLooked look (coding kind) (now (bytes .entry)) offset start end ⌝ }
+// The same where it is looked for at all; else `end`.
+pub fn first_lacking(look: bool, bytes: &[u8], offset: usize, start: usize, end: usize) -> usize
+    requires { ⌜ Near start end × Looks look (coding Protein) (now bytes) offset start end ⌝ }
+    ensures { λ r. ⌜ r ≡ firstLooked look (coding Protein) (now (bytes .entry)) offset start end ⌝ }
 {
-    if kind.bits_per_symbol() != WIDTH {
-        return end;
-    }
     if look {
         return first_in_protein(bytes, offset, start, end);
     }

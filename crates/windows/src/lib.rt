@@ -10,6 +10,8 @@ mod rolling;
 pub use read::Read;
 pub use read::decode_2bit;
 pub use read::decode_3bit;
+pub use read::decode_4bit;
+pub use read::decode_5bit;
 pub use read::decode_covered;
 pub use read::decode_rolling;
 pub use read::decode_string_from_bytes;

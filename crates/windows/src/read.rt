@@ -3,6 +3,8 @@
 use crate::asked::asked;
 use crate::asked::asked_covered;
 use crate::asked::kind_of;
+use crate::blocks::five_bits;
+use crate::blocks::four_bits;
 use crate::blocks::three_bits;
 use crate::fours::two_bits;
 use crate::lacking::first_lacking;
@@ -17,7 +19,8 @@ ghost use lib.ListN.{length};
 ghost use Rattle.bits.specs.Memory.{front, putAt};
 ghost use Rattle.alphabet.specs.Symbols.{coding};
 ghost use Rattle.windows.specs.Window.{window, readAt, readWrites, readMemory, coveredAt, coveredMemory};
-ghost use Rattle.windows.specs.Workers.{Fits, Looks, firstLooked, lookedMemory, Passed, served, Serves};
+ghost use Rattle.alphabet.specs.Names.{kindOf};
+ghost use Rattle.windows.specs.Workers.{Fits, InBlocks, Looks, firstLooked, lookedMemory, Passed, Suits};
 
 // What every read of a window answers: the bases written.
 pub enum Read {
@@ -25,7 +28,7 @@ pub enum Read {
     Refused(Refusal),
 }
 
-// Which engine writes: an alphabet's own, the fours of Dna2bit, the blocks of Dna3bit, or the rolling one, which takes any alphabet.
+// Which engine writes: an alphabet's own, the fours of Dna2bit, the blocks of Dna3bit, DnaIupac and Protein, or the rolling one, which takes any alphabet.
 enum Engine {
     Own,
     Fours,
@@ -53,8 +56,8 @@ fn rolled(
     roll(kind, &table, bytes, offset, start, count, out, 0);
 }
 
-// The same, unless `look` is asked for and the code of a base is no symbol's. The answer is the first such base, or the window's end. All reads come here but those
-// by the engine of one alphabet, so that the search is laid out here alone, and the others carry nothing of it.
+// The same of an alphabet that is read in blocks, unless `look` is asked for and the code of a base is no symbol's. The answer is the first such base, or the window's
+// end. Only Protein has such codes, so that the search is laid out here alone, and the other reads carry nothing of it.
 fn looked(
     kind: AlphabetType,
     look: bool,
@@ -64,20 +67,32 @@ fn looked(
     count: usize,
     out: &mut [u8],
 ) -> usize
-    requires { ⌜ Fits start count 0 (length (now out)) × Looks look (coding kind) (now bytes) offset start (start + count) ⌝ }
+    requires { ⌜ (Fits start count 0 (length (now out)) × InBlocks kind) × Looks look (coding kind) (now bytes) offset start (start + count) ⌝ }
     ensures { λ r. ⌜ r ≡ firstLooked look (coding kind) (now (bytes .entry)) offset start (start + count) ⌝ }
     ensures { λ _. ⌜ now (out .exit) ≡ lookedMemory look (coding kind) (now (bytes .entry)) offset start count (now (out .entry)) ⌝ }
 {
     let end = start + count;
-    let first = first_lacking(kind, look, bytes, offset, start, end);
-    if first < end {
-        return first;
+    match kind {
+        AlphabetType::Dna3bit => {
+            three_bits(bytes, offset, start, count, out);
+            end
+        }
+        AlphabetType::DnaIupac => {
+            four_bits(bytes, offset, start, count, out);
+            end
+        }
+        _ => {
+            let first = first_lacking(look, bytes, offset, start, end);
+            if first < end {
+                return first;
+            }
+            five_bits(bytes, offset, start, count, out);
+            first
+        }
     }
-    rolled(kind, bytes, offset, start, count, out);
-    first
 }
 
-// The same by the kind's own engine, where it has one: the codes of these alphabets are all symbols'.
+// The same by the kind's own engine.
 fn own(
     kind: AlphabetType,
     look: bool,
@@ -96,16 +111,16 @@ fn own(
             two_bits(bytes, offset, start, count, out);
             start + count
         }
-        AlphabetType::Dna3bit => {
-            three_bits(bytes, offset, start, count, out);
+        AlphabetType::Ascii | AlphabetType::Unknown => {
+            rolled(kind, bytes, offset, start, count, out);
             start + count
         }
         _ => looked(kind, look, bytes, offset, start, count, out),
     }
 }
 
-// `count` bases from base `start` on, by an engine. Those of one alphabet are called here and above, so that they stay functions of their own, and this one is laid
-// into each zero-filling read.
+// `count` bases from base `start` on, by an engine. Each engine is called here and above, so that it stays a function of its own, and this one is laid into each
+// zero-filling read.
 fn written(
     engine: Engine,
     kind: AlphabetType,
@@ -115,19 +130,18 @@ fn written(
     count: usize,
     out: &mut [u8],
 )
-    requires { ⌜ Fits start count 0 (length (now out)) ⌝ }
-    ensures { λ _. ⌜ now (out .exit)
-        ≡ putAt 0 (window (coding (served engine kind)) (now (bytes .entry)) offset start count) (now (out .entry)) ⌝ }
+    requires { ⌜ Fits start count 0 (length (now out)) × Suits engine kind ⌝ }
+    ensures { λ _. ⌜ now (out .exit) ≡ putAt 0 (window (coding kind) (now (bytes .entry)) offset start count) (now (out .entry)) ⌝ }
 {
     match engine {
         Engine::Own => {
             own(kind, false, bytes, offset, start, count, out);
         }
         Engine::Fours => two_bits(bytes, offset, start, count, out),
-        Engine::Blocks => three_bits(bytes, offset, start, count, out),
-        Engine::Any => {
+        Engine::Blocks => {
             looked(kind, false, bytes, offset, start, count, out);
         }
+        Engine::Any => rolled(kind, bytes, offset, start, count, out),
     }
 }
 
@@ -141,7 +155,7 @@ fn answered(
     start: usize,
     out: &mut [u8],
 ) -> Read
-    requires { ⌜ Passed answer start (length (now out)) × Serves engine alphabet ⌝ }
+    requires { ⌜ Passed answer start (length (now out)) × Suits engine (kindOf alphabet) ⌝ }
     ensures { λ r. ⌜ r ≡ answer ⌝ }
     ensures { λ _. ⌜ now (out .exit) ≡ front (readWrites alphabet (now (bytes .entry)) offset start answer) (now (out .entry)) ⌝ }
 {
@@ -165,7 +179,7 @@ fn zero_filling(
     end: usize,
     out: &mut [u8],
 ) -> Read
-    requires { ⌜ Serves engine alphabet ⌝ }
+    requires { ⌜ Suits engine (kindOf alphabet) ⌝ }
     ensures { λ r. ⌜ r ≡ readAt alphabet offset start end (length (now (out .entry))) ⌝ }
     ensures { λ _. ⌜ now (out .exit) ≡ readMemory alphabet (now (bytes .entry)) offset start end (now (out .entry)) ⌝ }
 {
@@ -264,6 +278,34 @@ pub fn decode_3bit(
     ensures { λ _. ⌜ now (out .exit) ≡ readMemory 1 (now (bytes .entry)) «byte_offset» start end (now (out .entry)) ⌝ }
 {
     zero_filling(Engine::Blocks, 1, bytes, byte_offset, start, end, out)
+}
+
+// The engine of DnaIupac: two bases from each byte.
+pub fn decode_4bit(
+    bytes: &[u8],
+    byte_offset: usize,
+    start: usize,
+    end: usize,
+    out: &mut [u8],
+) -> Read
+    ensures { λ r. ⌜ r ≡ readAt 2 «byte_offset» start end (length (now (out .entry))) ⌝ }
+    ensures { λ _. ⌜ now (out .exit) ≡ readMemory 2 (now (bytes .entry)) «byte_offset» start end (now (out .entry)) ⌝ }
+{
+    zero_filling(Engine::Blocks, 2, bytes, byte_offset, start, end, out)
+}
+
+// The engine of Protein: eight bases from five bytes.
+pub fn decode_5bit(
+    bytes: &[u8],
+    byte_offset: usize,
+    start: usize,
+    end: usize,
+    out: &mut [u8],
+) -> Read
+    ensures { λ r. ⌜ r ≡ readAt 3 «byte_offset» start end (length (now (out .entry))) ⌝ }
+    ensures { λ _. ⌜ now (out .exit) ≡ readMemory 3 (now (bytes .entry)) «byte_offset» start end (now (out .entry)) ⌝ }
+{
+    zero_filling(Engine::Blocks, 3, bytes, byte_offset, start, end, out)
 }
 
 // The engine of any alphabet: the rolling accumulator.

@@ -73,14 +73,14 @@ fn refill(bytes: &[u8], offset: usize, held: Held, b: usize) -> Held
     held
 }
 
-// The code of the b bits from bit `bit` of the file on.
+// The code of the b bits from bit `bit` of the file on, from the bytes of its first and of its last bit, which may be one.
 pub fn code_at(bytes: &[u8], offset: usize, bit: usize, b: usize) -> usize
-    requires { ⌜ (bit ≤ 2 ^ 63) × (b ≤ 8) ⌝ }
+    requires { ⌜ (bit ≤ 2 ^ 63) × ((0 < b) × (b ≤ 8)) ⌝ }
     ensures { λ r. ⌜ r ≡ word (bitAt 8 (fileByte (now (bytes .entry)) offset)) bit b ⌝ }
 {
-    let held = refill(bytes, offset, prime(bytes, offset, bit), b);
-    let have = held.have - b;
-    field(held.acc, have, b)
+    let first = fetch(bytes, offset, bit / 8) as u64;
+    let last = fetch(bytes, offset, (bit + b - 1) / 8);
+    field(push_byte(first, last), 16 - bit % 8 - b, b)
 }
 
 // `count` bases from base `start` on, written from place `from` on. The table is the alphabet's.

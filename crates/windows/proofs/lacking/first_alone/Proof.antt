@@ -1,7 +1,7 @@
 use mathlib.Core.Path.{_≡_, sym, ap, subst, _∙_}
 use Prim.Native.Nat.{ℕ, _+_, _-_}
 use native.Mathlib.Omega.{arith}
-use lib.Dec.{lit≤}
+use lib.Dec.{lit≤, lit<}
 use Rattle.alphabet.specs.Symbols.{coding}
 use Rattle.alphabet.specs.declared.kind.AlphabetType.the-variants.{Protein}
 use Rattle.windows.specs.Workers.{Passes}
@@ -26,7 +26,7 @@ mul-code-at : tie.Need-mul-code-at Inv-loop μ-loop
 mul-code-at c = omega (arith, c .before .before .before .pre .far, c .loop-test .taken)
 
 code-at-requires : tie.Need-code-at-requires Inv-loop μ-loop
-code-at-requires c κs = (omega (arith, c .before .before .before .pre .far, c .loop-test .taken), lit≤ tt)
+code-at-requires c κs = (omega (arith, c .before .before .before .pre .far, c .loop-test .taken), (lit< tt, lit≤ tt))
 
 returns : tie.Need-returns Inv-loop μ-loop
 returns c =

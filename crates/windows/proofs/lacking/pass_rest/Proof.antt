@@ -1,5 +1,6 @@
 use mathlib.Core.Path.{_≡_, subst}
-use Prim.Native.Nat.{ℕ, _+_, _-_, _*_, _/_}
+use Prim.Native.Nat.{ℕ, _+_, _-_, _*_, _/_, zero-le}
+use native.Mathlib.Nat.{add-zero}
 use native.Mathlib.Omega.{arith}
 use borrow.Author.Needs.{needs}
 use Rattle.alphabet.specs.Symbols.{coding}
@@ -68,9 +69,11 @@ shr-lacks c = search needs
 lacks-requires : tie.Need-lacks-requires
 lacks-requires c κs =
     let e = c .before in
-    let a = start e .args in
-    shifted-fits (a .bytes .now) (a .offset) (c .number .result) (first e) (a .start) (a .end - a .start) (last e - first e) (spare e) (start e .pre .begins)
-    (omega arith) (fill e) (c .number .ensures) (omega (arith, e .if1 .left))
+    let a = start e .args in (
+      shifted-fits (a .bytes .now) (a .offset) (c .number .result) (first e) (a .start) (a .end - a .start) (last e - first e) (spare e) (start e .pre .begins)
+          (omega arith) (fill e) (c .number .ensures) (omega (arith, e .if1 .left)),
+      zero-le,
+    )
 
 returns-2 : tie.Need-returns-2
 returns-2 c = none (c .before .before .before .before .before)
@@ -86,7 +89,7 @@ returns-3 c =
     subst (λ (i : ℕ). Passes (coding Protein) (a .bytes .now) (a .offset) (a .start) i (a .end)) whole
     (passes-more (coding Protein) (a .bytes .now) (a .offset) n (none (start e)) (omega (arith, whole))
     (eleven (a .bytes .now) (a .offset) (m .number .result) (first e) (a .start) n (last e - first e) (spare e) (start e .pre .begins) (omega arith) (fill e)
-    (m .number .ensures) (omega (arith, e .if1 .left)) (k .lacks .ensures (c .if2 .left))))
+    (m .number .ensures) (spare e) 0 (add-zero (spare e)) (omega (arith, e .if1 .left)) (k .lacks .ensures (c .if2 .left))))
 
 pub pass-rest-spec : {M : Type 1} → statement M
 pass-rest-spec =

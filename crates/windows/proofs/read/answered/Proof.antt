@@ -1,10 +1,9 @@
-use mathlib.Core.Path.{_≡_, refl, sym, ap, _∙_}
+use mathlib.Core.Path.{_≡_, refl, sym, subst}
 use Prim.Native.Nat.{ℕ}
 use borrow.Author.Needs.{needs}
 use lib.ListN.{length}
-use Rattle.alphabet.specs.Names.{kindOf}
 use Rattle.windows.specs.declared.read.Read.{Read}
-use Rattle.windows.specs.Workers.{Fits, served}
+use Rattle.windows.specs.Workers.{Fits, Suits}
 use Rattle.windows.proofs.Answering.{refused-after, empty-after, bases-after}
 use Rattle.windows.proofs.read.answered.Statement.{statement}
 use Rattle.windows.proofs.read.answered.Tie as tie
@@ -43,7 +42,10 @@ kind-of-requires : tie.Need-kind-of-requires
 kind-of-requires c κs = search needs
 
 written-requires : tie.Need-written-requires
-written-requires c κs = fits (c .before .before)
+written-requires c κs =
+    let k = c .before in
+    let s = start (k .before) in
+    (fits (k .before), subst (Suits (s .args .engine)) (sym (k .kind-of .ensures)) (s .pre .1))
 
 same-length : tie.Need-same-length
 same-length c = search needs
@@ -55,8 +57,7 @@ returns-3 c =
     let z = k .before in
     let a = start z .args in
     let told : a .answer ≡ Read.Bases (count z) = counted z .answer .given .1 in
-    let kind : served (a .engine) (k .kind-of .result) ≡ kindOf (a .alphabet) = ap (served (a .engine)) (k .kind-of .ensures) ∙ start z .pre .1 in
-    (sym told, bases-after (a .alphabet) (a .bytes .now) (a .offset) (a .start) (a .out .now) (a .answer) _ _ _ told kind (w .written .ensures))
+    (sym told, bases-after (a .alphabet) (a .bytes .now) (a .offset) (a .start) (a .out .now) (a .answer) _ _ _ told (k .kind-of .ensures) (w .written .ensures))
 
 pub answered-spec : {M : Type 1} → statement M
 answered-spec =

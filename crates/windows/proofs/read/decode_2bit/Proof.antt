@@ -1,4 +1,3 @@
-use mathlib.Core.Path.{sym}
 use borrow.Author.Needs.{needs}
 use Rattle.alphabet.specs.declared.kind.AlphabetType.the-variants.{Dna2bit}
 use Rattle.alphabet.proofs.Calls.{kind-number}
@@ -6,7 +5,7 @@ use Rattle.windows.proofs.read.decode_2bit.Statement.{statement}
 use Rattle.windows.proofs.read.decode_2bit.Tie as tie
 
 zero-filling-requires : tie.Need-zero-filling-requires
-zero-filling-requires c κs = sym (kind-number Dna2bit)
+zero-filling-requires c κs = kind-number Dna2bit
 
 same-length : tie.Need-same-length
 same-length c = search needs

@@ -1,12 +1,13 @@
-use mathlib.Core.Path.{sym}
+use mathlib.Core.Path.{sym, subst}
 use borrow.Author.Needs.{needs}
 use Rattle.alphabet.specs.declared.kind.AlphabetType.the-variants.{Dna3bit}
 use Rattle.alphabet.proofs.Calls.{kind-number}
+use Rattle.windows.specs.Workers.{InBlocks, three}
 use Rattle.windows.proofs.read.decode_3bit.Statement.{statement}
 use Rattle.windows.proofs.read.decode_3bit.Tie as tie
 
 zero-filling-requires : tie.Need-zero-filling-requires
-zero-filling-requires c κs = sym (kind-number Dna3bit)
+zero-filling-requires c κs = subst InBlocks (sym (kind-number Dna3bit)) three
 
 same-length : tie.Need-same-length
 same-length c = search needs

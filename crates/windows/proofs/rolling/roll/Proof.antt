@@ -11,14 +11,14 @@ use Rattle.bits.proofs.Files.{file-small}
 use Rattle.alphabet.specs.Symbols.{Coding, coding}
 use Rattle.windows.specs.Workers.{Holds}
 use Rattle.windows.proofs.Windows.{baseAt}
-use Rattle.windows.proofs.Turns.{Written, none-written, one-written, decoded, bit-fits, one-on, take-code, take-rest}
+use Rattle.windows.proofs.Turns.{TableWritten, none-written, one-written, decoded, bit-fits, one-on, take-code, take-rest}
 use Rattle.windows.proofs.rolling.roll.Statement.{statement}
 use Rattle.windows.proofs.rolling.roll.Tie as tie
 
 abbrev Inv-loop : tie.InvT-loop
 Inv-loop table bytes offset start count out₀ from b held₀ n₀ out held n =
     (n ≤ count) × (held .have < 8) × Holds (fileByte bytes offset) ((start + n) * b) held × (length out ≡ length out₀)
-    × ((A : Coding) → A .width ≡ b → table ≡ tabulate 32 (A .symbol) → Written A bytes offset from start n out₀ out)
+    × TableWritten table b bytes offset from start n out₀ out
 
 abbrev μ-loop : tie.MeasureT-loop
 μ-loop table bytes offset start count out₀ from b held₀ n₀ out held n = count - n
