@@ -10,11 +10,12 @@ use Rattle.bits.specs.Tables.{at}
 use Rattle.bits.specs.Streams.{bitAt}
 use Rattle.bits.specs.Packing.{fileByte}
 use Rattle.bits.specs.Memory.{front}
+use Rattle.alphabet.specs.declared.kind.AlphabetType.{AlphabetType}
 use Rattle.alphabet.specs.declared.kind.AlphabetType.the-variants.{Dna2bit, Dna3bit, DnaIupac, Protein}
 use Rattle.alphabet.specs.Names.{numberOf}
 use Rattle.packing.specs.declared.range.Range.{Range}
 use Rattle.windows.specs.declared.read.Read.{Read}
-use Rattle.record.specs.Made.{RangeCall, AtOffsetCall, SubstringCall, StringCall, CoveredCall, TwoBitCall, ThreeBitCall, FourBitCall, FiveBitCall, RollingCall}
+use Rattle.record.specs.Made.{EnginePost, EngineCall, RangeCall, AtOffsetCall, SubstringCall, StringCall, CoveredCall, TwoBitCall, ThreeBitCall, FourBitCall, FiveBitCall, RollingCall}
 use Rattle.record.specs.EncoderLists.{EncoderList, alphabetIn, codingIn, Finished, textIn, bytesIn}
 
 -- ---- a window
@@ -67,8 +68,14 @@ pub record Handed : Type 0 where
   pub result : Read
   pub afterwards : List ℕ
 
--- each decoder's parameters by their names, in their order; where it does not take the alphabet, it serves its own; where it does not take byte_offset or start,
--- they are fixed at 0
+-- the parameters of an engine of one alphabet by their names, in their order
+abbrev byEngine : {Post : EnginePost} → AlphabetType → EngineCall Post → Handed
+byEngine own c =
+    let (bytes, («byte_offset», (start, (end, (out, _))))) = c .args in
+    let (_, (_, (_, (_, (after, _))))) = c .exit in
+    record { alphabet = numberOf own; lent = now bytes; offset = «byte_offset»; start = start; end = end; memory = now out; result = c .result; afterwards = now after }
+
+-- each decoder's; where it does not take the alphabet, it serves its own; where it does not take byte_offset or start, they are fixed at 0
 abbrev pub handed : DecoderCall → Handed
 handed (at-offset c) =
     let (alphabet, (bytes, («byte_offset», (start, (end, (out, _)))))) = c .args in
@@ -86,22 +93,10 @@ handed (covered c) =
     let (alphabet, (bytes, («byte_offset», (start, (end, (out, _)))))) = c .args in
     let (_, (_, (_, (_, (_, (after, _)))))) = c .exit in
     record { alphabet = alphabet; lent = now bytes; offset = «byte_offset»; start = start; end = end; memory = now out; result = c .result; afterwards = now after }
-handed (two-bit c) =
-    let (bytes, («byte_offset», (start, (end, (out, _))))) = c .args in
-    let (_, (_, (_, (_, (after, _))))) = c .exit in
-    record { alphabet = numberOf Dna2bit; lent = now bytes; offset = «byte_offset»; start = start; end = end; memory = now out; result = c .result; afterwards = now after }
-handed (three-bit c) =
-    let (bytes, («byte_offset», (start, (end, (out, _))))) = c .args in
-    let (_, (_, (_, (_, (after, _))))) = c .exit in
-    record { alphabet = numberOf Dna3bit; lent = now bytes; offset = «byte_offset»; start = start; end = end; memory = now out; result = c .result; afterwards = now after }
-handed (four-bit c) =
-    let (bytes, («byte_offset», (start, (end, (out, _))))) = c .args in
-    let (_, (_, (_, (_, (after, _))))) = c .exit in
-    record { alphabet = numberOf DnaIupac; lent = now bytes; offset = «byte_offset»; start = start; end = end; memory = now out; result = c .result; afterwards = now after }
-handed (five-bit c) =
-    let (bytes, («byte_offset», (start, (end, (out, _))))) = c .args in
-    let (_, (_, (_, (_, (after, _))))) = c .exit in
-    record { alphabet = numberOf Protein; lent = now bytes; offset = «byte_offset»; start = start; end = end; memory = now out; result = c .result; afterwards = now after }
+handed (two-bit c) = byEngine Dna2bit c
+handed (three-bit c) = byEngine Dna3bit c
+handed (four-bit c) = byEngine DnaIupac c
+handed (five-bit c) = byEngine Protein c
 handed (rolling c) =
     let (alphabet, (bytes, («byte_offset», (start, (end, (out, _)))))) = c .args in
     let (_, (_, (_, (_, (_, (after, _)))))) = c .exit in
