@@ -1,12 +1,14 @@
 -- Blocks over a width: codes of a stream are the fields of a number in which their bits stand.
 use mathlib.Core.Path.{_≡_, sym, ap, ap₂, _∙_}
+use mathlib.Core.List.{List, map}
 use Prim.Native.Nat.{ℕ, _+_, _-_, _*_, _/_, _%_, _^_, _<_}
 use native.Mathlib.Nat.{add-zero, add-assoc, add-mul, one-mul, div-one, pow-zero, mod-eq-of-lt}
 use native.Mathlib.Decide.{decLt}
 use native.Mathlib.Omega.{arith}
 use lib.Pow.{high, shr-shr}
+use Rattle.bits.specs.Tables.{tabulate, at}
 use Rattle.bits.specs.Streams.{bitAt, word, cut, fields}
-use Rattle.bits.proofs.Tabulated.{tabulate-ext}
+use Rattle.bits.proofs.Tabulated.{tabulate-ext, map-tabulate}
 use Rattle.bits.proofs.Words.{word-add, word-whole, word-high, word-low, bit-lt}
 
 -- n bits of a word, with m bits before them and r bits behind them
@@ -53,6 +55,14 @@ pub aligned-codes : (byte : ℕ → ℕ) (b c n i j : ℕ) → i * b ≡ j * 8 �
     → cut b (bitAt 8 byte) (i * b) c ≡ fields b c (word (bitAt 8 byte) (j * 8) (n * 8))
 aligned-codes byte b c n i j first whole =
     cut-fields (bitAt 8 byte) (bit-lt 8 byte) b (i * b) c ∙ ap₂ (λ (x y : ℕ). fields b c (word (bitAt 8 byte) x y)) first whole
+
+-- a table's entries at the fields of a number
+abbrev pub entryAt : List ℕ → ℕ → ℕ → ℕ → ℕ → ℕ
+entryAt table b c v t = at table (v / 2 ^ ((c - 1 - t) * b) % 2 ^ b)
+
+pub entries-at : (table : List ℕ) (b c v : ℕ) → map (at table) (fields b c v) ≡ tabulate c (entryAt table b c v)
+unfolding fields
+entries-at table b c v = map-tabulate (at table) (λ t. v / 2 ^ ((c - 1 - t) * b) % 2 ^ b) c
 
 -- the number that bytes write, one more byte at a time
 module _ (byte : ℕ → ℕ) (small : (j : ℕ) → byte j < 256) where

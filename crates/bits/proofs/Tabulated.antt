@@ -1,7 +1,7 @@
 -- Laws of `tabulate`: its length, its entries, and a store into it.
 use mathlib.Core.Path.{_≡_, refl, sym, ap, ap₂, _∙_}
 use mathlib.Core.Bool.{Bool, true, false, cond}
-use mathlib.Core.List.{List, [], _∷_, _++_, append-nil, append-assoc}
+use mathlib.Core.List.{List, [], _∷_, _++_, map, map-append, append-nil, append-assoc}
 use Prim.Native.Nat.{ℕ, zero, suc, _+_, _<_}
 use native.Mathlib.Nat.{add-zero, add-suc, not-suc-le-zero, le-of-suc-le-suc}
 use native.Mathlib.Decide.{decLt}
@@ -87,3 +87,9 @@ tabulate-add m zero f = rw (add-zero m) (sym (append-nil (tabulate m f)))
 tabulate-add m (suc n) f =
     rw (add-suc m n, tabulate-add m n f)
     (append-assoc (tabulate m f) (tabulate n (λ i. f (m + i))) (f (m + n) ∷ []))
+
+-- a function of a table's entries
+pub map-tabulate : (f g : ℕ → ℕ) (n : ℕ) → map f (tabulate n g) ≡ tabulate n (λ i. f (g i))
+unfolding tabulate
+map-tabulate f g zero = refl
+map-tabulate f g (suc n) = map-append f (tabulate n g) (g n ∷ []) ∙ ap (λ (l : List ℕ). l ++ (f (g n) ∷ [])) (map-tabulate f g n)

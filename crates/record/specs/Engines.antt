@@ -3,7 +3,7 @@
 use mathlib.Core.Path.{_≡_}
 use mathlib.Core.Bool.{Bool, true, false}
 use Rattle.record.specs.Made.{RollingCall}
-use Rattle.record.specs.Decoders.{DecoderCall, at-offset, substring, string, covered, two-bit, three-bit, four-bit, five-bit, rolling, Handed, handed}
+use Rattle.record.specs.Decoders.{DecoderCall, at-offset, substring, string, covered, two-bit, three-bit, four-bit, five-bit, rolling, handed}
 
 -- whether a decoder takes a byte that is not lent for zero: each does but the covered read
 abbrev pub fillsZero : DecoderCall → Bool

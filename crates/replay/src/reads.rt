@@ -6,6 +6,8 @@ use crate::answer::unknown;
 use check::same;
 use fantailclock::fc_decode_2bit;
 use fantailclock::fc_decode_3bit;
+use fantailclock::fc_decode_4bit;
+use fantailclock::fc_decode_5bit;
 use fantailclock::fc_decode_covered;
 use fantailclock::fc_decode_rolling;
 use fantailclock::fc_decode_string_from_bytes;
@@ -34,6 +36,12 @@ fn place(name: &[u8]) -> u64 {
     }
     if same(name, b"decode_3bit") {
         return 7;
+    }
+    if same(name, b"decode_4bit") {
+        return 8;
+    }
+    if same(name, b"decode_5bit") {
+        return 9;
     }
     0
 }
@@ -70,6 +78,8 @@ pub fn answer(name: &[u8], given: &[u64; 11], bytes: &[u8], out: &mut [u8]) -> A
         ),
         6 => count(3, fc_decode_2bit(bytes, first, second, third, out)),
         7 => count(3, fc_decode_3bit(bytes, first, second, third, out)),
+        8 => count(3, fc_decode_4bit(bytes, first, second, third, out)),
+        9 => count(3, fc_decode_5bit(bytes, first, second, third, out)),
         _ => unknown(),
     }
 }

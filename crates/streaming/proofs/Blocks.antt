@@ -1,23 +1,24 @@
 -- Blocks: eight bases from as many bytes as a base has bits.
-use mathlib.Core.Path.{_≡_, sym, ap, ap₂, _∙_}
-use mathlib.Core.List.{List, [], _∷_, _++_, append-assoc, append-nil}
-use Prim.Native.Nat.{ℕ, suc, _+_, _-_, _*_, _/_, _%_, _^_, _≤_, _<_}
-use native.Mathlib.Nat.{add-mul, one-mul, mul-assoc, add-suc, add-zero, mod-lt, mod-eq-of-lt, lt-of-lt-of-le, mul-le-mul-right, zero-mul, pow-zero, mul-one}
-use native.Mathlib.Numerals.{add-one}
+use mathlib.Core.Path.{_≡_, sym, ap, _∙_}
+use mathlib.Core.List.{List, _++_, map}
+use Prim.Native.Nat.{ℕ, _+_, _-_, _*_, _/_, _%_, _^_, _≤_, _<_}
+use native.Mathlib.Nat.{zero-add, add-mul, one-mul, mul-assoc, add-zero, mod-eq-of-lt, lt-of-lt-of-le, zero-mul, pow-zero, mul-one}
 use native.Mathlib.Omega.{arith}
 use lib.Arith.{digits-lt}
-use lib.ListN.{length, getD, take, drop, set, length-append, take-append-drop}
-use lib.Pow.{pow-pos, pow-add, pow-mono}
-use lib.Seq.{length-take-le, take-at, drop-at, drop-cons, drop-drop, set-at}
+use lib.ListN.{length, drop}
+use lib.Pow.{pow-add, pow-mono, shr-shr}
 use Rattle.bits.specs.Tables.{tabulate, at}
-use Rattle.bits.specs.Streams.{bitAt, word}
+use Rattle.bits.specs.Streams.{bitAt, word, cut, fields}
+use Rattle.bits.specs.Memory.{putAt}
 use Rattle.bits.proofs.Shifts.{field-is, code-lt}
 use Rattle.bits.proofs.Words.{word-add, word-lt, word-whole, bit-lt}
-use Rattle.bits.proofs.Tabulated.{length-tabulate, getD-tabulate, tabulate-add, tabulate-ext}
+use Rattle.bits.proofs.Tabulated.{length-tabulate, getD-tabulate, tabulate-ext, map-tabulate}
+use Rattle.bits.proofs.Put.{put-front, more-filled}
+use Rattle.bits.proofs.Blocks.{cut-within, entryAt}
 use Rattle.streaming.specs.declared.decoder.StreamingDecoder.{StreamingDecoder}
 use Rattle.streaming.specs.Stream.{readsBy, sourceBits, used}
-use Rattle.streaming.specs.Flow.{Level, baseAt, filled, blockBase, withBases, withBlock}
-use Rattle.streaming.proofs.Levels.{level-field}
+use Rattle.streaming.specs.Flow.{Level, baseAt, filled, withBlock}
+use Rattle.streaming.proofs.Levels.{source-lt, used-add}
 
 -- a field of a number, as an index into a table of 32 entries
 pub code-is : {r p b : ℕ} (x : ℕ) → p < 64 → b ≤ 5 → r ≡ x / 2 ^ (p % 64) % 2 ^ (b % 64) → (r ≡ x / 2 ^ p % 2 ^ b) × (r < 32)
@@ -57,30 +58,15 @@ module _ (source : List ℕ) (from acc : ℕ) where
 
 -- ---- bases spread in memory
 
-module _ (table : List ℕ) (bits have b n : ℕ) (out₀ : List ℕ) where
-  pub spread-none : out₀ ≡ withBases 0 table bits have b n out₀
-  unfolding tabulate
-  spread-none = sym (ap₂ (λ (x : List ℕ) (k : ℕ). x ++ drop k out₀) (append-nil (take n out₀)) (add-zero n) ∙ take-append-drop n out₀)
-
-  -- where base i's code stands
-  pub spread-code : (i left c : ℕ) → left + i * b ≡ have + b * 8 → c ≡ bits / 2 ^ (left - b) % 2 ^ b → at table c ≡ blockBase table bits have b i
-  spread-code i left c e f =
-      let place : left - b ≡ have + b * 8 - (i + 1) * b = omega (arith, add-mul i 1 b, one-mul b) in
-      ap (at table) (f ∙ ap (λ (x : ℕ). bits / 2 ^ x % 2 ^ b) place)
-
-  -- base i is stored
-  pub spread-more : (i : ℕ) (out : List ℕ) (v : ℕ) → n + i < length out₀ → v ≡ blockBase table bits have b i → out ≡ withBases i table bits have b n out₀
-      → set out (n + i) v ≡ withBases (i + 1) table bits have b n out₀
-  unfolding tabulate
-  spread-more i out v h e q =
-      let f : ℕ → ℕ = blockBase table bits have b in
-      let before : List ℕ = take n out₀ ++ tabulate i f in
-      let long : length before ≡ n + i = omega (arith, length-append (take n out₀) (tabulate i f), length-take-le n out₀ (omega arith), length-tabulate i f) in
-      ap (λ (l : List ℕ). set l (n + i) v) (q ∙ ap (λ (l : List ℕ). before ++ l) (drop-cons out₀ (n + i) 0 h))
-      ∙ set-at before (getD out₀ (n + i) 0) (drop (suc (n + i)) out₀) v (n + i) long
-      ∙ sym (append-assoc before (v ∷ []) (drop (suc (n + i)) out₀))
-      ∙ ap (λ (l : List ℕ). l ++ drop (suc (n + i)) out₀) (append-assoc (take n out₀) (tabulate i f) (v ∷ []) ∙ ap (λ (x : ℕ). take n out₀ ++ (tabulate i f ++ (x ∷ []))) e)
-      ∙ ap₂ (λ (k m : ℕ). (take n out₀ ++ tabulate k f) ++ drop m out₀) (sym (add-one i)) (sym (add-suc n i) ∙ ap (λ (k : ℕ). n + k) (sym (add-one i)))
+-- where base i's code stands
+pub spread-code : (table : List ℕ) (bits have b i left c : ℕ) → i < 8 → left + i * b ≡ have + b * 8 → c ≡ bits / 2 ^ (left - b) % 2 ^ b
+    → at table c ≡ entryAt table b 8 (bits / 2 ^ have) i
+spread-code table bits have b i left c h e f =
+    let rest : ℕ = 8 - 1 - i in
+    let parts : i + 1 + rest ≡ 8 = omega arith in
+    let codes : (i + 1) * b + rest * b ≡ 8 * b = sym (add-mul (i + 1) rest b) ∙ ap (λ (x : ℕ). x * b) parts in
+    let place : left - b ≡ have + rest * b = omega (arith, codes, add-mul i 1 b, one-mul b) in
+    ap (at table) (f ∙ ap (λ (x : ℕ). bits / 2 ^ x % 2 ^ b) place ∙ ap (λ (x : ℕ). x % 2 ^ b) (sym (shr-shr bits have (rest * b))))
 
 -- ---- a block within a call
 
@@ -93,27 +79,39 @@ module _ (s : StreamingDecoder) (source : List ℕ) where
   unfolding baseAt
   looked-up table k c t h e = ap (λ (l : List ℕ). at l c) t ∙ getD-tabulate 32 (readsBy s .symbol) c 0 h ∙ ap (readsBy s .symbol) e
 
+  -- the first n bases at the front of memory
+  pub filled-put : (n : ℕ) (memory : List ℕ) → filled s source n memory ≡ putAt 0 (tabulate n (baseAt s source)) memory
+  unfolding filled
+  filled-put n memory =
+      let base : ℕ → ℕ = baseAt s source in
+      ap (λ (k : ℕ). tabulate n base ++ drop k memory) (sym (length-tabulate n base)) ∙ sym (put-front (tabulate n base) memory)
+
+  -- the bases of a block: eight codes that stand above the `have` low bits at hand
+  block-bases : {table : List ℕ} {bits taken n : ℕ} (have : ℕ) → table ≡ tabulate 32 (readsBy s .symbol) → b ≤ 5 → Level s source bits (have + b * 8) taken n
+      → map (at table) (fields b 8 (bits / 2 ^ have)) ≡ tabulate 8 (λ i. baseAt s source (n + i))
+  unfolding cut
+  block-bases {table} {bits} {taken} {n} have t five r =
+      let S : ℕ → ℕ = sourceBits s source in
+      let all : have + b * 8 ≡ 0 + 8 * b + have = omega arith in
+      let codes : fields b 8 (bits / 2 ^ have) ≡ cut b S (used s n) 8 =
+      ap (λ (x : ℕ). fields b 8 (x / 2 ^ have)) (r .held ∙ ap (word S (used s n)) all)
+      ∙ sym (cut-within S (source-lt s source) b 8 (used s n) 0 have)
+      ∙ ap (λ (k : ℕ). cut b S k 8) (add-zero (used s n)) in
+      ap (map (at table)) codes
+      ∙ map-tabulate (at table) (λ i. word S (used s n + i * b) b) 8
+      ∙ tabulate-ext 8 (λ i. at table (word S (used s n + i * b) b)) (λ i. baseAt s source (n + i))
+      (λ i h.
+      looked-up table (n + i) (word S (used s n + i * b) b) t (lt-of-lt-of-le (word-lt S (source-lt s source) (used s n + i * b) b) (pow-mono {i = b} {j = 5} five))
+      (ap (λ (k : ℕ). word S k b) (sym (used-add s n i))))
+
   -- eight bases more are in memory
   pub block-written : {table : List ℕ} {bits taken n : ℕ} (have : ℕ) (out out₀ : List ℕ) {new : List ℕ}
-      → table ≡ tabulate 32 (readsBy s .symbol) → b ≤ 5 → Level s source bits (have + b * 8) taken n
+      → table ≡ tabulate 32 (readsBy s .symbol) → b ≤ 5 → Level s source bits (have + b * 8) taken n → n + 8 ≤ length out₀
       → out ≡ filled s source n out₀ → new ≡ withBlock table bits have b n out → new ≡ filled s source (n + 8) out₀
-  unfolding filled withBlock
-  block-written {table} {bits} {taken} {n} have out out₀ t five r e f =
-      let base : ℕ → ℕ = baseAt s source in
-      let len : length (tabulate n base) ≡ n = length-tabulate n base in
-      let front : take n out ≡ tabulate n base = ap (take n) e ∙ take-at (tabulate n base) (drop n out₀) n len in
-      let rest : drop (n + 8) out ≡ drop (n + 8) out₀ =
-      sym (drop-drop 8 n out) ∙ ap (drop 8) (ap (drop n) e ∙ drop-at (tabulate n base) (drop n out₀) n len) ∙ drop-drop 8 n out₀ in
-      let bases : tabulate 8 (blockBase table bits have b) ≡ tabulate 8 (λ i. base (n + i)) = tabulate-ext 8 (blockBase table bits have b) (λ i. base (n + i)) one in
+  unfolding withBlock
+  block-written {table} {bits} {taken} {n} have out out₀ t five r room e f =
+      let xs : List ℕ = map (at table) (fields b 8 (bits / 2 ^ have)) in
       f
-      ∙ ap₂ (λ (x y : List ℕ). (x ++ tabulate 8 (blockBase table bits have b)) ++ y) front rest
-      ∙ ap (λ (x : List ℕ). (tabulate n base ++ x) ++ drop (n + 8) out₀) bases
-      ∙ ap (λ (x : List ℕ). x ++ drop (n + 8) out₀) (sym (tabulate-add n 8 base))
-    where
-      one : (i : ℕ) → i < 8 → blockBase table bits have b i ≡ baseAt s source (n + i)
-      one i h =
-          let code : ℕ = bits / 2 ^ (have + b * 8 - (i + 1) * b) % 2 ^ b in
-          let small : code < 2 ^ b = mod-lt (bits / 2 ^ (have + b * 8 - (i + 1) * b)) (pow-pos b) in
-          let wide : 2 ^ b ≤ 2 ^ 5 = pow-mono {i = b} {j = 5} five in
-          let part : (i + 1) * b ≤ 8 * b = mul-le-mul-right b (omega arith) in
-          looked-up table (n + i) code t (omega arith) (level-field r i (omega arith))
+      ∙ ap (λ (k : ℕ). putAt k xs out) (sym (zero-add n))
+      ∙ more-filled (baseAt s source) 0 out₀ n out (e ∙ filled-put n out₀) 8 xs (omega arith) (block-bases have t five r)
+      ∙ sym (filled-put (n + 8) out₀)

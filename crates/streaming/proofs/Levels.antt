@@ -13,7 +13,8 @@ use lib.ListN.{length, drop, set}
 use lib.Seq.{drop-at, drop-drop}
 use Rattle.bits.specs.Tables.{tabulate, at}
 use Rattle.bits.specs.Streams.{bitAt, word}
-use Rattle.bits.proofs.Words.{word-add, word-lt, word-high, word-low}
+use Rattle.bits.proofs.Blocks.{word-field}
+use Rattle.bits.proofs.Words.{word-add, word-lt, word-low}
 use Rattle.bits.proofs.Tabulated.{length-tabulate, store}
 use Rattle.streaming.specs.declared.decoder.StreamingDecoder.{StreamingDecoder}
 use Rattle.streaming.specs.declared.decoder.Streamed.{Streamed}
@@ -92,8 +93,7 @@ module _ {s : StreamingDecoder} {source : List ℕ} {acc have taken n : ℕ} (r 
       let left : ℕ = have - (i + 1) * b in
       let sum : have ≡ i * b + b + left = omega (arith, add-mul i 1 b, one-mul b) in
       ap (λ (x : ℕ). x / 2 ^ left % 2 ^ b) (r .held ∙ ap (word S (used s n)) sum)
-      ∙ ap (λ (x : ℕ). x % 2 ^ b) (word-high S (source-lt s source) (used s n) (i * b + b) left)
-      ∙ word-low S (source-lt s source) (used s n) (i * b) b
+      ∙ word-field S (source-lt s source) (used s n) (i * b) b left
       ∙ ap (λ (x : ℕ). word S x b) (sym (used-add s n i))
 
   -- m bases are cut off

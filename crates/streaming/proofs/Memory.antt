@@ -1,25 +1,20 @@
 -- A call's answer and its memory, by the questions that it asks.
 use mathlib.Core.Path.{_≡_, refl, sym, ap, _∙_}
 use mathlib.Core.Bool.{true, false, _||_}
-use mathlib.Core.List.{List, [], _∷_, _++_, map, map-append}
-use Prim.Native.Nat.{ℕ, zero, suc, _+_, _*_}
+use mathlib.Core.List.{List, [], _++_, map}
+use Prim.Native.Nat.{ℕ, _+_, _*_}
 use lib.Dec.{eqb, ltb}
 use lib.ListN.{length, drop}
 use Rattle.alphabet.specs.Questions.{by}
 use Rattle.bits.specs.Tables.{tabulate}
 use Rattle.bits.specs.Streams.{word, cut}
 use Rattle.bits.specs.Memory.{front}
-use Rattle.bits.proofs.Tabulated.{length-tabulate}
+use Rattle.bits.proofs.Tabulated.{length-tabulate, map-tabulate}
 use Rattle.streaming.specs.declared.decoder.StreamingDecoder.{StreamingDecoder}
 use Rattle.streaming.specs.declared.decoder.Status.the-variants.{Hungry}
 use Rattle.streaming.specs.declared.decoder.Streamed.{Streamed}
 use Rattle.streaming.specs.Stream.{readsBy, soundStream, sourceBits, used, basesOf, movedBy, streamAt, streamWrites, streamMemory}
 use Rattle.streaming.specs.Flow.{baseAt, filled}
-
-map-tabulate : (f g : ℕ → ℕ) (n : ℕ) → map f (tabulate n g) ≡ tabulate n (λ i. f (g i))
-unfolding tabulate
-map-tabulate f g zero = refl
-map-tabulate f g (suc n) = map-append f (tabulate n g) (g n ∷ []) ∙ ap (λ (l : List ℕ). l ++ (f (g n) ∷ [])) (map-tabulate f g n)
 
 -- an answer and the memory with it
 unfoldable pub Met : StreamingDecoder → List ℕ → List ℕ → Streamed → List ℕ → Type 0

@@ -4,6 +4,7 @@ use mathlib.Core.List.{List}
 use Prim.Native.Nat.{ℕ, _+_, _-_, _*_, _/_, _%_, _^_, _≤_, _<_}
 use native.Mathlib.Nat.{add-zero, one-mul}
 use native.Mathlib.Omega.{arith}
+use lib.ListN.{length}
 use Rattle.bits.specs.Tables.{tabulate, at}
 use Rattle.bits.specs.Streams.{word}
 use Rattle.streaming.specs.declared.decoder.StreamingDecoder.{StreamingDecoder}
@@ -24,10 +25,10 @@ module _ (s : StreamingDecoder) (source : List ℕ) (b : ℕ) (w : b ≡ readsBy
 
   -- and they are in memory
   pub block-memory : {table : List ℕ} {bits taken n : ℕ} (have : ℕ) (out out₀ : List ℕ) {new : List ℕ}
-      → table ≡ tabulate 32 (readsBy s .symbol) → W ≤ 5 → Level s source bits (have + b * 8) taken n
+      → table ≡ tabulate 32 (readsBy s .symbol) → W ≤ 5 → Level s source bits (have + b * 8) taken n → n + 8 ≤ length out₀
       → out ≡ filled s source n out₀ → new ≡ withBlock table bits have b n out → new ≡ filled s source (n + 8) out₀
-  block-memory {table} {bits} {taken} {n} have out out₀ t five r e f =
-      block-written s source have out out₀ t five (rw w at r) e (rw w at f)
+  block-memory {table} {bits} {taken} {n} have out out₀ t five r room e f =
+      block-written s source have out out₀ t five (rw w at r) room e (rw w at f)
 
   module _ {acc have taken n : ℕ} (r : Level s source acc have taken n) (fits : b ≤ have) where
     -- the next base, looked up by its code

@@ -1,10 +1,11 @@
 -- Within a call: what the stream's own functions promise each other. Document 01 says nothing of it.
-use Prim.Native.Nat.{ℕ, _+_, _-_, _*_, _/_, _%_, _^_, _≤_, _<_}
+use Prim.Native.Nat.{ℕ, _+_, _-_, _*_, _/_, _^_, _≤_, _<_}
 use mathlib.Core.Path.{_≡_}
-use mathlib.Core.List.{List, _++_}
-use lib.ListN.{length, take, drop}
+use mathlib.Core.List.{List, _++_, map}
+use lib.ListN.{length, drop}
 use Rattle.bits.specs.Tables.{tabulate, at}
-use Rattle.bits.specs.Streams.{word}
+use Rattle.bits.specs.Streams.{word, fields}
+use Rattle.bits.specs.Memory.{putAt}
 use Rattle.streaming.specs.Stream.{readsBy, sourceBits, used, statusOf}
 use Rattle.streaming.specs.declared.decoder.StreamingDecoder.{StreamingDecoder}
 use Rattle.streaming.specs.declared.decoder.Streamed.{Streamed}
@@ -37,16 +38,9 @@ answeredBy s acc have taken n room =
 
 -- ---- a block of eight bases
 
--- the symbol of base i, whose code stands in a number of have + b * 8 bits
-abbrev pub blockBase : List ℕ → ℕ → ℕ → ℕ → ℕ → ℕ
-blockBase table bits have b i = at table (bits / 2 ^ (have + b * 8 - (i + 1) * b) % 2 ^ b)
-
--- memory with m of them from place n on
-abbrev pub withBases : ℕ → List ℕ → ℕ → ℕ → ℕ → ℕ → List ℕ → List ℕ
-withBases m table bits have b n memory = (take n memory ++ tabulate m (blockBase table bits have b)) ++ drop (n + m) memory
-
+-- memory with the eight bases from place n on whose codes, b bits wide, stand above the `have` low bits of a number
 unfoldable pub withBlock : List ℕ → ℕ → ℕ → ℕ → ℕ → List ℕ → List ℕ
-withBlock = withBases 8
+withBlock table bits have b n memory = putAt n (map (at table) (fields b 8 (bits / 2 ^ have))) memory
 
 -- ---- a run of bytes
 

@@ -9,12 +9,11 @@ use lib.Dec.{T, eqb, eqb→eq, lit<}
 use Rattle.bits.specs.Tables.{tabulate, at, bytesOf}
 use Rattle.bits.specs.Streams.{fields}
 use Rattle.bits.proofs.Computed.{passes, below}
-use Rattle.bits.proofs.Tabulated.{tabulate-ext}
+use Rattle.bits.proofs.Tabulated.{tabulate-ext, map-tabulate}
 use Rattle.alphabet.specs.Symbols.{coding}
 use Rattle.alphabet.specs.declared.kind.AlphabetType.the-variants.{Dna2bit}
 use Rattle.alphabet.proofs.Laws.{dna2bit-symbols, widths}
 use Rattle.windows.specs.Workers.{symbolsOf}
-use Rattle.windows.proofs.Windows.{map-tabulate}
 
 -- code t of a byte, and what `base_in` makes of a code
 abbrev pub codeIn : ℕ → ℕ → ℕ

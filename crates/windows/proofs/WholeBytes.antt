@@ -14,7 +14,7 @@ use Rattle.bits.specs.Tables.{tabulate, at, Bytes}
 use Rattle.bits.specs.Streams.{bitAt, word, fields}
 use Rattle.bits.specs.Packing.{fileByte, codesFrom}
 use Rattle.bits.specs.Memory.{putAt}
-use Rattle.bits.proofs.Tabulated.{length-tabulate, tabulate-ext, getD-tabulate, is-tabulate, replicate-tabulate}
+use Rattle.bits.proofs.Tabulated.{length-tabulate, tabulate-ext, getD-tabulate, is-tabulate, replicate-tabulate, map-tabulate}
 use Rattle.bits.proofs.Words.{word-lt, bit-lt}
 use Rattle.bits.proofs.Shifts.{push-byte-is, code-lt}
 use Rattle.bits.proofs.Put.{Filled, none-filled, more-filled, put-none, put-one, put-put}
@@ -25,7 +25,7 @@ use Rattle.alphabet.specs.declared.kind.AlphabetType.{AlphabetType}
 use Rattle.alphabet.proofs.Laws.{Plain, shape}
 use Rattle.windows.specs.Window.{window}
 use Rattle.windows.specs.Workers.{Decodes, symbolsOf, stretch, fileBytes}
-use Rattle.windows.proofs.Windows.{baseAt, window-bases, map-tabulate}
+use Rattle.windows.proofs.Windows.{baseAt, window-bases}
 use Rattle.windows.proofs.Turns.{Written, none-written, more-written, entry}
 
 -- ---- blocks: c bases that fill n bytes
@@ -138,14 +138,6 @@ entries A table b c v decodes width =
     ∙ tabulate-ext c (λ t. at table (f t)) (λ t. A .symbol (f t)) (λ t h. entry A table (f t) decodes (code-lt (v / 2 ^ ((c - 1 - t) * b)) b five))
     ∙ sym (map-tabulate (A .symbol) f c)
     ∙ ap (λ (w : ℕ). map (A .symbol) (fields w c v)) (sym width)
-
--- entry t of these
-abbrev pub entryAt : List ℕ → ℕ → ℕ → ℕ → ℕ → ℕ
-entryAt table b c v t = at table (v / 2 ^ ((c - 1 - t) * b) % 2 ^ b)
-
-pub entries-at : (table : List ℕ) (b c v : ℕ) → map (at table) (fields b c v) ≡ tabulate c (entryAt table b c v)
-unfolding fields
-entries-at table b c v = map-tabulate (at table) (λ t. v / 2 ^ ((c - 1 - t) * b) % 2 ^ b) c
 
 -- ---- stores in a row: at place k, at k + 1, and so on
 

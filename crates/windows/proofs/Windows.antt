@@ -1,8 +1,8 @@
 -- The laws of windows that other crates cite: each base by itself, a window in two parts, a window of a packed text.
-use mathlib.Core.Path.{_≡_, refl, sym, ap, ap₂, _∙_}
+use mathlib.Core.Path.{_≡_, sym, ap, ap₂, _∙_}
 use mathlib.Core.Bool.{true}
 use mathlib.Core.List.{List, [], _∷_, _++_, map}
-use Prim.Native.Nat.{ℕ, zero, suc, _+_, _-_, _*_, _/_, _%_, _^_, _≤_, _<_}
+use Prim.Native.Nat.{ℕ, suc, _+_, _-_, _*_, _/_, _%_, _^_, _≤_, _<_}
 use native.Mathlib.Nat.{add-assoc, add-mul, add-zero, suc-mul, mul-le-mul-right, mod-eq-of-lt}
 use native.Mathlib.Omega.{arith}
 use borrow.Author.Tests.{leb-true}
@@ -13,22 +13,13 @@ use Rattle.bits.specs.Tables.{tabulate, at}
 use Rattle.bits.specs.Streams.{bitAt, word, cut}
 use Rattle.bits.specs.Packing.{pack, fileByte, codesFrom, firstByte, endByte}
 use Rattle.bits.proofs.Computed.{both-true}
-use Rattle.bits.proofs.Tabulated.{length-tabulate, tabulate-ext, tabulate-add, is-tabulate, getD-within}
+use Rattle.bits.proofs.Tabulated.{length-tabulate, tabulate-ext, tabulate-add, is-tabulate, getD-within, map-tabulate}
 use Rattle.bits.proofs.Words.{word-ext, bit-cong}
 use Rattle.bits.proofs.Files.{file-lent}
 use Rattle.bits.proofs.Packed.{codes-of-pack}
 use Rattle.alphabet.specs.Symbols.{Coding}
 use Rattle.alphabet.proofs.Laws.{Lawful}
 use Rattle.windows.specs.Window.{window, covers}
-
-map-append : (f : ℕ → ℕ) (xs ys : List ℕ) → map f (xs ++ ys) ≡ map f xs ++ map f ys
-map-append f [] ys = refl
-map-append f (x ∷ xs) ys = ap (λ (l : List ℕ). f x ∷ l) (map-append f xs ys)
-
-pub map-tabulate : (f g : ℕ → ℕ) (n : ℕ) → map f (tabulate n g) ≡ tabulate n (λ i. f (g i))
-unfolding tabulate
-map-tabulate f g zero = refl
-map-tabulate f g (suc n) = map-append f (tabulate n g) (g n ∷ []) ∙ ap (λ (l : List ℕ). l ++ (f (g n) ∷ [])) (map-tabulate f g n)
 
 module _ (A : Coding) (lent : List ℕ) (offset : ℕ) where
   -- base i of a file: the symbol of the b bits at i * b

@@ -146,8 +146,8 @@ loop-again c =
     let block = level-gather (inv .1) (b l) (omega (arith, gathered c .before .if1 .left, inv .1 .within)) (gathered c .gather .ensures) in (
       omega (arith, turn c .loop-test .taken, inv .0),
       block-next s source (b l) (wide l) have block (c .low .ensures ∙ low-is (omega (arith, start l .pre .1 .few)) _),
-      block-memory s source (b l) (wide l) have (l .loop .out) (memory l) (l .before .before .decoding-array .ensures) (start l .pre .0 .0) block (inv .2)
-          (spread c .spread .ensures),
+      block-memory s source (b l) (wide l) have (l .loop .out) (memory l) (l .before .before .decoding-array .ensures) (start l .pre .0 .0) block
+          (omega (arith, turn c .loop-test .taken, inv .0, limit l)) (inv .2) (spread c .spread .ensures),
       spread c .spread .kept .1 .1 .1 .1 .0 ∙ inv .3,
     )
 

@@ -1,17 +1,21 @@
-use mathlib.Core.Path.{_≡_, refl}
-use Prim.Native.Nat.{_+_, _-_, _*_, _/_, _%_, _^_, _≤_, _<_}
+use mathlib.Core.Path.{_≡_, refl, sym, ap, _∙_}
+use mathlib.Core.List.{List}
+use Prim.Native.Nat.{ℕ, _+_, _-_, _*_, _/_, _%_, _^_, _≤_, _<_}
 use native.Mathlib.Nat.{add-mul, one-mul, mul-le-mul-right, zero-mul}
 use native.Mathlib.Omega.{arith}
 use borrow.Author.Needs.{needs}
 use lib.ListN.{length, length-set}
-use Rattle.streaming.specs.Flow.{withBases, withBlock}
-use Rattle.streaming.proofs.Blocks.{code-is, spread-none, spread-code, spread-more}
+use Rattle.bits.specs.Memory.{putAt}
+use Rattle.bits.proofs.Put.{Filled, none-filled, one-filled}
+use Rattle.bits.proofs.Blocks.{entryAt, entries-at}
+use Rattle.streaming.specs.Flow.{withBlock}
+use Rattle.streaming.proofs.Blocks.{code-is, spread-code}
 use Rattle.streaming.proofs.flow.spread.Statement.{statement}
 use Rattle.streaming.proofs.flow.spread.Tie as tie
 
 abbrev Inv-loop : tie.InvT-loop
 Inv-loop table bits have b out₀ n left₀ i₀ out left i =
-    (i ≤ 8) × (left + i * b ≡ have + b * 8) × (out ≡ withBases i table bits have b n out₀) × (length out ≡ length out₀)
+    (i ≤ 8) × (left + i * b ≡ have + b * 8) × Filled (entryAt table b 8 (bits / 2 ^ have)) n out₀ i out × (length out ≡ length out₀)
 
 abbrev μ-loop : tie.MeasureT-loop
 μ-loop table bits have b out₀ n left₀ i₀ out left i = 8 - i
@@ -25,7 +29,7 @@ add-left c = search needs
 loop-holds : tie.Need-loop-holds Inv-loop μ-loop
 loop-holds c =
     let a = c .before .args in
-    (search needs, omega (arith, zero-mul (a .b)), spread-none (a .table .now) (a .bits) (a .have) (a .b) (a .n) (a .out .now), refl)
+    (search needs, omega (arith, zero-mul (a .b)), none-filled (entryAt (a .table .now) (a .b) 8 (a .bits / 2 ^ a .have)) (a .n) (a .out .now), refl)
 
 abbrev start : tie.After-field Inv-loop μ-loop → tie.Start Inv-loop μ-loop
 start c = c .before .before .before .before
@@ -72,9 +76,10 @@ loop-again c =
     let a = start .args in (
       search needs,
       omega (arith, l .inv .1, fits turn, add-mul (l .i) 1 (a .b), one-mul (a .b)),
-      spread-more (a .table .now) (a .bits) (a .have) (a .b) (a .n) (a .out .now) (l .i) (l .out) _ (omega (arith, turn .loop-test .taken, start .pre))
-          (spread-code (a .table .now) (a .bits) (a .have) (a .b) (a .n) (a .out .now) (l .i) (l .left) (c .before .field .result) (l .inv .1) (code (c .before) .0))
-          (l .inv .2),
+      one-filled (entryAt (a .table .now) (a .b) 8 (a .bits / 2 ^ a .have)) (a .n) (a .out .now) (l .i) (l .out) (l .inv .2) _
+          (omega (arith, turn .loop-test .taken, start .pre))
+          (spread-code (a .table .now) (a .bits) (a .have) (a .b) (l .i) (l .left) (c .before .field .result) (omega (arith, turn .loop-test .taken)) (l .inv .1)
+          (code (c .before) .0)),
       simp length-set (l .inv .3),
     )
 
@@ -85,8 +90,10 @@ returns : tie.Need-returns Inv-loop μ-loop
 unfolding withBlock
 returns c =
     let l = c .before .loop in
+    let a = c .before .before .before .args in
     let all : l .i ≡ 8 = omega (arith, l .inv .0, c .loop-test .left) in
     rw all at (l .inv .2)
+    ∙ ap (λ (xs : List ℕ). putAt (a .n) xs (a .out .now)) (sym (entries-at (a .table .now) (a .b) 8 (a .bits / 2 ^ a .have)))
 
 pub spread-spec : {M : Type 1} → statement M
 spread-spec =

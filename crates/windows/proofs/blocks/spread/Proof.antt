@@ -7,9 +7,9 @@ use borrow.Author.Needs.{needs}
 use lib.ListN.{length, length-set}
 use Rattle.bits.specs.Tables.{at}
 use Rattle.bits.specs.Memory.{putAt}
+use Rattle.bits.proofs.Blocks.{entryAt, entries-at}
 use Rattle.bits.proofs.Put.{Filled, none-filled, one-filled}
 use Rattle.bits.proofs.Shifts.{field-is, code-lt}
-use Rattle.windows.proofs.WholeBytes.{entryAt, entries-at}
 use Rattle.windows.proofs.blocks.spread.Statement.{statement}
 use Rattle.windows.proofs.blocks.spread.Tie as tie
 
