@@ -14,10 +14,12 @@ pub enum Layer {
     Genome,
     /// The encoder asked before it packs.
     Asking,
+    /// Windows at the edges of blocks. It has cases and faults, and its entry points are those of `Windows`.
+    Blocks,
 }
 
 impl Layer {
-    pub const ALL: [Layer; 7] = [
+    pub const ALL: [Layer; 8] = [
         Layer::Alphabet,
         Layer::Packing,
         Layer::Windows,
@@ -25,6 +27,7 @@ impl Layer {
         Layer::Ending,
         Layer::Genome,
         Layer::Asking,
+        Layer::Blocks,
     ];
 }
 
@@ -99,6 +102,8 @@ entries! {
     DecodeRolling: "decode_rolling" Windows (WINDOW; "bytes out") -> ("refusal count"; ""),
     Decode2bit: "decode_2bit" Windows (WINDOW; "bytes out") -> ("refusal count"; ""),
     Decode3bit: "decode_3bit" Windows (WINDOW; "bytes out") -> ("refusal count"; ""),
+    Decode4bit: "decode_4bit" Windows (WINDOW; "bytes out") -> ("refusal count"; ""),
+    Decode5bit: "decode_5bit" Windows (WINDOW; "bytes out") -> ("refusal count"; ""),
 
     StreamNew: "stream_new" Streaming ("alphabet skip budget"; "") -> ("refusal"; STREAM),
     StreamRead: "stream_read" Streaming (STREAM; "source out") -> ("refusal taken written status"; STREAM),
@@ -177,6 +182,8 @@ impl Call {
             Entry::DecodeString => self.numbers[1..3].fill(0),
             Entry::Decode2bit => self.numbers[0] = 0,
             Entry::Decode3bit => self.numbers[0] = 1,
+            Entry::Decode4bit => self.numbers[0] = 2,
+            Entry::Decode5bit => self.numbers[0] = 3,
             _ => {}
         }
         self

@@ -38,7 +38,7 @@ fn lacking() -> Vec<u64> {
 }
 
 /// Writes a code as that of a base of Protein; bits of bytes that are not lent go nowhere.
-fn plant(byte_offset: u64, bytes: &mut [u8], base: u64, code: u64) {
+pub fn plant(byte_offset: u64, bytes: &mut [u8], base: u64, code: u64) {
     for k in 0..WIDTH {
         let bit = base * WIDTH + k;
         let Some(place) = (bit / 8).checked_sub(byte_offset) else { continue };
@@ -104,10 +104,11 @@ impl Damaged {
         Window { alphabet: PROTEIN, bytes, byte_offset, start, end, room }
     }
 
-    /// Puts it to the covered read, and to the zero-filling one, which keeps the X.
+    /// Puts it to the covered read, and to the zero-filling one and the alphabet's engine, which keep the X.
     fn put(&self, check: &mut Checker) -> Go {
         self.window(self.count()).put(check, Entry::DecodeCovered)?;
-        self.window(self.count()).put(check, Entry::DecodeAtOffset)
+        self.window(self.count()).put(check, Entry::DecodeAtOffset)?;
+        self.window(self.count()).put_engine(check)
     }
 }
 

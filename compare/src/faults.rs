@@ -202,6 +202,15 @@ faults! {
     AskFirstChunk Asking "an ask looks for non-members in the first 4,096 bytes alone",
     UpdateWantsMore Asking "an update refuses the memory that an ask tells to be just enough",
     UpdateLeavesOther Asking "an update leaves another bit pending than an ask tells",
+
+    HalvesSwapped Blocks "the 4-bit engine takes the low half of a byte for the first of its two bases",
+    OddFromFront Blocks "the 4-bit engine takes a first base that is the second of its byte from the high half",
+    FiveAtEdge Blocks "the 5-bit engine reads a byte of a block that is not lent as FF",
+    EdgeUnwritten Blocks "the 5-bit engine writes nothing of a block of which a byte is not lent",
+    BlockFromByte Blocks "the 5-bit engine reads a block that begins within a byte from that byte's first bit on",
+    FourForEight Blocks "the 5-bit engine takes eight bases from the first four of their five bytes",
+    BlockOffsetIgnored Blocks "the 4-bit and the 5-bit engine take byte_offset for 0",
+    FiveBitRefuses Blocks "the 5-bit engine refuses a code that no symbol has",
 }
 
 impl Fault {
@@ -236,6 +245,7 @@ impl Fault {
             (Fault::NoFillBehind, _) if call.entry != Entry::DecodeCovered => text.resize(text.len() + 8, 0xFF),
             (Fault::WindowPastLimit, _) if numbers[3] == LIMIT + 1 && numbers[2] < LIMIT => numbers[3] = LIMIT,
             (Fault::CoverShort, Entry::DecodeCovered) => text.push(0),
+            (Fault::BlockOffsetIgnored, Entry::Decode4bit | Entry::Decode5bit) if numbers[1] <= LIMIT => numbers[1] = 0,
             (Fault::BudgetNarrowed, Entry::StreamNew) => numbers[2] &= 0xFFFF_FFFF,
             (Fault::LaterNarrowed, Entry::LaterAlphabet) => numbers.iter_mut().for_each(|number| *number &= 0xFF),
             (Fault::ChromosomeEndLost, Entry::GuessAlphabet) => drop(text.pop()),
@@ -319,7 +329,7 @@ impl Fault {
         match call.entry.shape().layer {
             Layer::Alphabet => self.alphabet(call, before, words, out),
             Layer::Packing => self.packing(call, before, words, out),
-            Layer::Windows => self.windows(call, before, words, out),
+            Layer::Windows | Layer::Blocks => self.windows(call, before, words, out),
             Layer::Streaming | Layer::Ending => self.streaming(call, words),
             Layer::Genome => self.combining(call, words),
             Layer::Asking => self.foretelling(call, words),
@@ -507,12 +517,44 @@ impl Fault {
             Fault::AlphabetBeforeEmpty if end <= start && alphabet > 5 => refuse(8, call, before, words, out),
             Fault::MemoryBeforeCover if words[0] == 3 && (out.len() as u64) < end - start => words[0] = 4,
             _ if call.entry == Entry::DecodeCovered => self.lacking(call, before, words, out),
-            Fault::ZeroFillingRefuses if call.entry == Entry::DecodeRolling => {}
+            Fault::ZeroFillingRefuses if matches!(call.entry, Entry::DecodeRolling | Entry::Decode5bit) => {}
             Fault::RollingRefuses if call.entry != Entry::DecodeRolling => {}
-            Fault::ZeroFillingRefuses | Fault::RollingRefuses if words[0] == 0 && first_lacking(call).is_some() => {
+            Fault::FiveBitRefuses if call.entry != Entry::Decode5bit => {}
+            Fault::ZeroFillingRefuses | Fault::RollingRefuses | Fault::FiveBitRefuses
+                if words[0] == 0 && first_lacking(call).is_some() =>
+            {
                 refuse(18, call, before, words, out);
             }
+            _ if words[0] == 0 => self.blocks(call, before, out),
             _ => {}
+        }
+    }
+
+    /// What an engine that reads blocks wrongly in this way makes of the bases of a window.
+    fn blocks(self, call: &Call, before: &[u8], out: &mut [u8]) {
+        let [alphabet, byte_offset, start, end, ..] = call.numbers;
+        let (file, behind) = (model::file(call), byte_offset.saturating_add(call.text.len() as u64));
+        let lent = |place: u64| (byte_offset..behind).contains(&place);
+        let base = |i: u64, file: &dyn Fn(u64) -> u8| model::base(alphabet, i, file);
+        for (k, i) in (start..end).enumerate() {
+            // Whether the window has all bases of this one's block, and whether its five bytes are lent, if of Protein.
+            let inside = |bases: u64| start <= i / bases * bases && i / bases * bases + bases <= end;
+            let whole = || (i / 8 * 5..i / 8 * 5 + 5).all(lent);
+            out[k] = match (self, call.entry) {
+                (Fault::HalvesSwapped, Entry::Decode4bit) if inside(2) => base(i ^ 1, &file),
+                (Fault::OddFromFront, Entry::Decode4bit) if i == start && i % 2 == 1 => base(i - 1, &file),
+                (Fault::FiveAtEdge, Entry::Decode5bit) if inside(8) => {
+                    base(i, &|place| if lent(place) { file(place) } else { 0xFF })
+                }
+                (Fault::EdgeUnwritten, Entry::Decode5bit) if inside(8) && !whole() => before[k],
+                (Fault::BlockFromByte, Entry::Decode5bit) if i < end - (end - start) % 8 => {
+                    base(i - start, &|place| file(start * 5 / 8 + place))
+                }
+                (Fault::FourForEight, Entry::Decode5bit) if inside(8) && whole() => {
+                    base(i, &|place| if place % 5 < 4 { file(place) } else { 0 })
+                }
+                _ => continue,
+            };
         }
     }
 

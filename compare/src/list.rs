@@ -6,6 +6,7 @@
 
 mod alphabet;
 mod asking;
+mod blocks;
 mod case;
 #[path = "sample.rs"]
 mod check;
@@ -42,6 +43,7 @@ const HEAD: &str = "\
 # model's, and so is the third number of what that read answers.
 # Nor does it combine two guesses: it answered by its guess of two texts joined, whose guesses they are.
 # Nor can it be asked before it packs: `encoder_ask` it answered by its update of a copy, with what that writes left unseen.
+# Nor has it an engine for DnaIupac or for Protein alone: `decode_4bit` and `decode_5bit` it answered by its rolling engine.
 ";
 
 fn cases(layer: Layer, check: &mut Checker) -> Go {
@@ -54,6 +56,7 @@ fn cases(layer: Layer, check: &mut Checker) -> Go {
         Layer::Ending => streaming::ends(check, random, SCALE),
         Layer::Genome => genome::cases(check, random, SCALE),
         Layer::Asking => asking::cases(check, random, SCALE),
+        Layer::Blocks => blocks::cases(check, random),
     }
 }
 
@@ -63,7 +66,7 @@ fn numbers(call: &Call) -> Vec<u64> {
     match call.entry {
         Entry::DecodeSubstring => vec![first, start, end],
         Entry::DecodeString => vec![first, end],
-        Entry::Decode2bit | Entry::Decode3bit => vec![byte_offset, start, end],
+        Entry::Decode2bit | Entry::Decode3bit | Entry::Decode4bit | Entry::Decode5bit => vec![byte_offset, start, end],
         _ => call.numbers[..call.entry.shape().numbers.split_whitespace().count()].to_vec(),
     }
 }

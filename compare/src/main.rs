@@ -3,6 +3,7 @@
 mod abi;
 mod alphabet;
 mod asking;
+mod blocks;
 mod case;
 mod check;
 mod damaged;
@@ -67,6 +68,7 @@ fn cases(layer: Layer, check: &mut Checker, options: &Options) -> Go {
         Layer::Ending => streaming::ends(check, random, scale),
         Layer::Genome => genome::cases(check, random, scale),
         Layer::Asking => asking::cases(check, random, scale),
+        Layer::Blocks => blocks::cases(check, random),
     }
 }
 

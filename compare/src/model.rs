@@ -1,8 +1,9 @@
 //! Document 01's questions and answers, with the choice to fold (A1), the count of non-members (A5), the covered read's
-//! question about codes that no symbol has (A7), the guess of a genome (A9) and the ask before packing (A10) that document
-//! 02 adds, written from their sentences and not from the Rust: slow, small, and whole. It gives every word of every answer,
-//! on a refusal too, and the memory afterwards. It is held against the Rust wherever the Rust has an answer, and decides
-//! where the Rust has none.
+//! question about codes that no symbol has (A7), the guess of a genome (A9), the ask before packing (A10) and the engines of
+//! DnaIupac and Protein (A12) that document 02 adds, written from their sentences and not from the Rust: slow, small, and
+//! whole. It gives every word of every answer, on a refusal too, and the memory afterwards. It is held against the Rust
+//! wherever the Rust has an answer, and decides where the Rust has none. It knows of no blocks, and reads each base by its
+//! own bits.
 
 use crate::case::{Call, Entry, Memory, Numbers};
 use crate::tally;
@@ -372,8 +373,9 @@ pub fn byte_range(start: u64, end: u64, bits: u64) -> Answer {
     Ok(vec![0, start * bits / 8, (end * bits).div_ceil(8)])
 }
 
-/// All window reads: the zero-filling ones, the covered one and the engines. Of the covered read alone every byte of the
-/// window's range is asked, and every base's code, both of the window and of nothing beside it.
+/// All window reads: the zero-filling ones, the covered one and the engines, of which those of one alphabet come with its
+/// number and are not refused by 8. Of the covered read alone every byte of the window's range is asked, and every base's
+/// code, both of the window and of nothing beside it.
 fn window(call: &Call, out: &mut [u8]) -> Answer {
     let [alphabet, byte_offset, start, end, ..] = call.numbers;
     let covered = call.entry == Entry::DecodeCovered;

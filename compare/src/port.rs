@@ -8,7 +8,7 @@ pub fn answer(call: &Call, memory: &mut Memory, fault: Option<Fault>) -> Vec<u64
     match call.entry.shape().layer {
         Layer::Alphabet => alphabet::answer(call, memory, fault),
         Layer::Packing | Layer::Asking => packing::answer(call, memory, fault),
-        Layer::Windows => windows::answer(call, memory, fault),
+        Layer::Windows | Layer::Blocks => windows::answer(call, memory, fault),
         Layer::Streaming | Layer::Ending => streaming::answer(call, memory, fault),
         Layer::Genome => genome::answer(call, memory, fault),
     }
@@ -178,6 +178,8 @@ mod windows {
                 Entry::DecodeString => abi::fc_decode_string_from_bytes(alphabet, bytes, len, end, out, room),
                 Entry::Decode2bit => engine(abi::fc_decode_2bit),
                 Entry::Decode3bit => engine(abi::fc_decode_3bit),
+                Entry::Decode4bit => engine(abi::fc_decode_4bit),
+                Entry::Decode5bit => engine(abi::fc_decode_5bit),
                 _ => unreachable!("{:?}", call.entry),
             }
         })

@@ -4,7 +4,8 @@
 //! does it count non-members: of a state and of a refusal 5 it tells all but the count. Nor does any read of its refuse a
 //! code that no symbol has; which codes these are, its own table tells (`packed_again`). Nor does it combine guesses: it is
 //! asked for its guess of the texts joined. Nor can it be asked before it packs: it packs a copy, and what it then tells is
-//! its answer, what it wrote left unseen.
+//! its answer, what it wrote left unseen. Nor has it an engine for DnaIupac alone, or for Protein: there its rolling engine
+//! answers by the alphabet's table, beside the public read and the naive decoder, as for any other window of these two.
 
 use crate::case::{Call, Entry, Layer, Memory};
 use crate::model;
@@ -129,7 +130,7 @@ pub fn opinions(call: &Call, before: &Memory, expected: &[u64]) -> Vec<Opinion> 
     match call.entry.shape().layer {
         Layer::Alphabet => of_alphabet(&mut panel),
         Layer::Packing | Layer::Asking => of_packing(&mut panel),
-        Layer::Windows => of_windows(&mut panel),
+        Layer::Windows | Layer::Blocks => of_windows(&mut panel),
         Layer::Streaming | Layer::Ending => of_streaming(&mut panel),
         Layer::Genome => of_genome(&mut panel),
     }

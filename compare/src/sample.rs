@@ -10,10 +10,11 @@ use std::collections::{BTreeMap, HashSet};
 pub type Go = Result<(), std::convert::Infallible>;
 
 /// The most lines of an entry point. Those that have the choice to fold get more, and the read that asks the most; an
-/// encoder's start has little else.
+/// encoder's start has little else, and what an engine reads, the reads of its alphabet have too.
 fn lines(entry: Entry) -> usize {
     match entry {
         Entry::EncoderNew => 120,
+        Entry::Decode4bit | Entry::Decode5bit => 150,
         Entry::DecodeCovered => 350,
         _ if entry.shape().numbers.contains("fold") => 350,
         _ => 300,
@@ -122,6 +123,8 @@ fn group(call: &Call, words: &[u64]) -> [u64; 4] {
             [one, other] if one == other || one.min(other) > 5 => 2,
             [one, other] => u64::from(one < other),
         },
+        // From which base of a block of eight on, where the window is short; a long one has whole blocks in any case.
+        Entry::Decode4bit | Entry::Decode5bit if (1..=40).contains(&words[1]) => 2 + call.numbers[2] % 8,
         _ if call.entry.shape().layer == Layer::Windows => words[1].min(1), // whether the answer is empty
         _ => 0,
     };

@@ -6,15 +6,11 @@ use crate::damaged;
 use crate::model::{self, LIMIT};
 use crate::random::{beyond, Random};
 
-const READS: [Entry; 7] = [
-    Entry::DecodeAtOffset,
-    Entry::DecodeSubstring,
-    Entry::DecodeString,
-    Entry::DecodeCovered,
-    Entry::DecodeRolling,
-    Entry::Decode2bit,
-    Entry::Decode3bit,
-];
+/// The reads that serve every alphabet.
+const READS: [Entry; 5] =
+    [Entry::DecodeAtOffset, Entry::DecodeSubstring, Entry::DecodeString, Entry::DecodeCovered, Entry::DecodeRolling];
+/// The engines that serve one alphabet each, by its number; Ascii and Unknown have none.
+const ENGINES: [Entry; 4] = [Entry::Decode2bit, Entry::Decode3bit, Entry::Decode4bit, Entry::Decode5bit];
 
 pub fn cases(check: &mut Checker, random: &mut Random, scale: u64) -> Go {
     // First, since many of the planted faults are noticed there, and each runs all cases before.
@@ -54,17 +50,13 @@ impl Window<'_> {
 
     /// Puts it to every read that serves its alphabet; those that fix a number take it as they fix it.
     pub fn put_all(&self, check: &mut Checker) -> Go {
-        for entry in READS {
-            let serves = match entry {
-                Entry::Decode2bit => self.alphabet == 0,
-                Entry::Decode3bit => self.alphabet == 1,
-                _ => true,
-            };
-            if serves {
-                self.put(check, entry)?;
-            }
-        }
-        Ok(())
+        READS.into_iter().try_for_each(|entry| self.put(check, entry))?;
+        self.put_engine(check)
+    }
+
+    /// Puts it to the engine of its alphabet, where that has one.
+    pub fn put_engine(&self, check: &mut Checker) -> Go {
+        ENGINES.get(self.alphabet as usize).map_or(Ok(()), |&entry| self.put(check, entry))
     }
 }
 
@@ -79,7 +71,7 @@ fn room_near(random: &mut Random, count: u64) -> usize {
 
 /// Bytes lent of a file, any bytes. In Protein a window of ten bases has mostly a code then that no symbol has, so that in
 /// every other file of it all codes are symbols'.
-fn lent(random: &mut Random, alphabet: u64, byte_offset: u64, len: usize) -> Vec<u8> {
+pub fn lent(random: &mut Random, alphabet: u64, byte_offset: u64, len: usize) -> Vec<u8> {
     let mut bytes = random.bytes(len);
     if alphabet == damaged::PROTEIN && random.one_in(2) {
         damaged::mend(random, byte_offset, &mut bytes);

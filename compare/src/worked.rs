@@ -1,7 +1,7 @@
 //! Document 01's worked table, row by row: it holds the model to the document's own figures. Its rows do not fold; those
 //! of document 02's first request, which do, stand behind them, those of its fifth, which count non-members, those of its
-//! seventh, in which a code is no symbol's, those of its ninth, in which guesses are combined, and those of its tenth, in
-//! which an update is asked about.
+//! seventh, in which a code is no symbol's, those of its ninth, in which guesses are combined, those of its tenth, in which
+//! an update is asked about, and those of its twelfth, in which the engines of DnaIupac and Protein read.
 
 use crate::case::{Call, Entry, Step};
 use crate::check::{Checker, Go};
@@ -9,9 +9,9 @@ use crate::model::{DONE, FULL, HUNGRY, LIMIT};
 
 /// All rows.
 pub fn rows(check: &mut Checker) -> Go {
-    let rows =
-        [guesses(), packings(), windows(), streams(), folded(), counted(), lacking(), combined(), asked()].concat();
-    for (call, words, bytes) in rows {
+    let of_01 = [guesses(), packings(), windows(), streams()].concat();
+    let of_02 = [folded(), counted(), lacking(), combined(), asked(), engines()].concat();
+    for (call, words, bytes) in [of_01, of_02].concat() {
         check.row(&call, &words, &bytes)?;
     }
     Ok(())
@@ -266,4 +266,40 @@ fn asked() -> Vec<Row> {
         refused(2, full, b"A", u64::MAX),
     ];
     rows.concat()
+}
+
+/// What the sentences on the engines of DnaIupac and Protein make of windows, told by hand. 01 23 45 holds codes 0 to 5 of
+/// DnaIupac; C6 75 BE 77 DF holds codes 24 to 31 of Protein, a block of eight, and the last three of them are no symbol's.
+fn engines() -> Vec<Row> {
+    let call = |entry: Entry, [byte_offset, start, end]: [u64; 3], bytes: &[u8], room: usize| {
+        Call::new(entry, &[0, byte_offset, start, end]).text(bytes).room(room)
+    };
+    let read = |entry: Entry, numbers: [u64; 3], bytes: &[u8], answer: &[u8]| {
+        (call(entry, numbers, bytes, answer.len() + 1), vec![0, answer.len() as u64], answer.to_vec())
+    };
+    let refused = |entry: Entry, numbers: [u64; 3], room: usize, number: u64| {
+        (call(entry, numbers, &[0xC6], room), vec![number, 0], vec![])
+    };
+    let (four, five) = (Entry::Decode4bit, Entry::Decode5bit);
+    let (pairs, block) = ([0x01, 0x23, 0x45], [0xC6, 0x75, 0xBE, 0x77, 0xDF]);
+    vec![
+        read(four, [0, 0, 6], &pairs, b"NACMGR"),
+        read(four, [0, 1, 4], &pairs, b"ACM"),
+        read(four, [0, 3, 4], &pairs, b"M"),
+        read(five, [0, 0, 8], &block, b"UBZOJXXX"),
+        read(five, [0, 3, 6], &block, b"OJX"),
+        read(five, [5, 8, 16], &block, b"UBZOJXXX"),
+        // Bytes that are not lent are zeros, before those that are and behind them.
+        read(four, [1, 1, 7], &pairs[1..2], b"NCMNNN"),
+        read(five, [1, 0, 8], &block[1..], b"ACZOJXXX"),
+        read(five, [0, 0, 8], &block[..4], b"UBZOJXUA"),
+        read(five, [LIMIT, 0, 1], &block, b"A"),
+        // An empty window asks nothing; then comes 2, of the end and of byte_offset, then 4.
+        read(four, [u64::MAX, LIMIT + 1, LIMIT + 1], &pairs, b""),
+        read(five, [0, 3, 2], &block, b""),
+        refused(four, [0, 0, LIMIT + 1], 0, 2),
+        refused(five, [LIMIT + 1, 0, 1], 0, 2),
+        refused(four, [0, 0, LIMIT], 0, 4),
+        refused(five, [0, 0, 2], 1, 4),
+    ]
 }
