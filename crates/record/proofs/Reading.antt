@@ -18,7 +18,8 @@ use Rattle.windows.specs.Window.{readAt, readMemory, coveredAt, coveredMemory}
 use Rattle.windows.proofs.Given.{Serves, read-told, read-left, covered-told, covered-left}
 use Rattle.record.specs.Texts.{Members, Packed}
 use Rattle.record.specs.EncoderLists.{EncoderList, alphabetIn, foldIn, codingIn, textIn, bytesIn}
-use Rattle.record.specs.Decoders.{Window, Lent, DecoderCall, at-offset, substring, string, covered, two-bit, three-bit, four-bit, five-bit, rolling, Handed, handed, SetTo, Set, Gives}
+use Rattle.record.specs.Decoders.{Window, Lent, DecoderCall, at-offset, substring, string, covered, two-bit}
+use Rattle.record.specs.Decoders.{three-bit, four-bit, five-bit, rolling, Handed, handed, SetTo, Set, Gives}
 use Rattle.record.proofs.Alike.{member-digit}
 use Rattle.record.proofs.Encoders.{list-packs}
 

@@ -15,7 +15,8 @@ use Rattle.alphabet.specs.declared.kind.AlphabetType.the-variants.{Dna2bit, Dna
 use Rattle.alphabet.specs.Names.{numberOf}
 use Rattle.packing.specs.declared.range.Range.{Range}
 use Rattle.windows.specs.declared.read.Read.{Read}
-use Rattle.record.specs.Made.{EnginePost, EngineCall, RangeCall, AtOffsetCall, SubstringCall, StringCall, CoveredCall, TwoBitCall, ThreeBitCall, FourBitCall, FiveBitCall, RollingCall}
+use Rattle.record.specs.Made.{EnginePost, EngineCall, RangeCall, AtOffsetCall, SubstringCall, StringCall}
+use Rattle.record.specs.Made.{CoveredCall, TwoBitCall, ThreeBitCall, FourBitCall, FiveBitCall, RollingCall}
 use Rattle.record.specs.EncoderLists.{EncoderList, alphabetIn, codingIn, Finished, textIn, bytesIn}
 
 -- ---- a window
