@@ -32,7 +32,7 @@ REQUESTS = {
         ("`update`, and `encode_sequence`, which packs by the same loops: within a twentieth of what they were", 1.05, PACKING),
         ("the same, folding", 1.05, [f"folded {row}" for row in PACKING]),
     ]),
-    "A12": ("windows of DnaIupac and of Protein are read by whole blocks, two bases from a byte and eight from five bytes", [
+    "A12": ("windows of DnaIupac and of Protein are read in blocks, two bases from each byte and eight from five bytes", [
         ("windows of 1 and of 10 bases of these two, both reads: not slower than before", 1.0,
             [f"window {n} {read} {alphabet}" for n in (1, 10) for read in ("zero-filling", "covered") for alphabet in ("DnaIupac", "Protein")]),
     ]),
