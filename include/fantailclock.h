@@ -182,10 +182,13 @@ fc_count fc_decode_string_from_bytes(uint64_t alphabet, const uint8_t *bytes, si
  * before and behind it, in the same bytes too, refuse nothing. */
 fc_covered fc_decode_covered(uint64_t alphabet, const uint8_t *bytes, size_t len, uint64_t byte_offset, uint64_t start, uint64_t end, uint8_t *out, size_t room);
 
-/* The engines behind the zero-filling reads, with the same answers: for any alphabet, for Dna2bit, for Dna3bit. */
+/* The engines behind the zero-filling reads, with the same answers: for any alphabet, for Dna2bit, for Dna3bit, for DnaIupac (two bases from one byte), for
+ * Protein (eight from five). The last four take no alphabet's number, and refuse by 2, 4. */
 fc_count fc_decode_rolling(uint64_t alphabet, const uint8_t *bytes, size_t len, uint64_t byte_offset, uint64_t start, uint64_t end, uint8_t *out, size_t room);
 fc_count fc_decode_2bit(const uint8_t *bytes, size_t len, uint64_t byte_offset, uint64_t start, uint64_t end, uint8_t *out, size_t room);
 fc_count fc_decode_3bit(const uint8_t *bytes, size_t len, uint64_t byte_offset, uint64_t start, uint64_t end, uint8_t *out, size_t room);
+fc_count fc_decode_4bit(const uint8_t *bytes, size_t len, uint64_t byte_offset, uint64_t start, uint64_t end, uint8_t *out, size_t room);
+fc_count fc_decode_5bit(const uint8_t *bytes, size_t len, uint64_t byte_offset, uint64_t start, uint64_t end, uint8_t *out, size_t room);
 
 /* A stream that has taken nothing. For the window from `start` to `end` the skip is start * bits per symbol modulo 8, the budget end - start, and the source
  * begins at the first byte of fc_byte_range_for_bases. Refuses by 8, 6. */

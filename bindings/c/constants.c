@@ -144,8 +144,78 @@ static void hold_codes(void) {
         hold("and its symbol", out[0], known ? (uint8_t)symbols[code] : 'X');
         hold("the same by an engine", fc_decode_rolling(FC_PROTEIN, &byte, 1, 0, 0, 1, out, 1).refusal, FC_ACCEPTED);
         hold("and its symbol", out[0], known ? (uint8_t)symbols[code] : 'X');
+        out[0] = 0;
+        hold("the same by Protein's own engine", fc_decode_5bit(&byte, 1, 0, 0, 1, out, 1).refusal, FC_ACCEPTED);
+        hold("and its symbol", out[0], known ? (uint8_t)symbols[code] : 'X');
         hold("the same by a stream", fc_stream_read(fc_stream_new(FC_PROTEIN, 0, 1).next, &byte, 1, out, 1).written, 1);
         hold("and its symbol", out[0], known ? (uint8_t)symbols[code] : 'X');
+    }
+}
+
+/* The engines of one alphabet. */
+static const struct {
+    const char *name;
+    uint64_t alphabet;
+    fc_count (*read)(const uint8_t *bytes, size_t len, uint64_t byte_offset, uint64_t start, uint64_t end, uint8_t *out, size_t room);
+} engines[] = {
+    {"fc_decode_2bit", FC_DNA2BIT, fc_decode_2bit},
+    {"fc_decode_3bit", FC_DNA3BIT, fc_decode_3bit},
+    {"fc_decode_4bit", FC_DNA_IUPAC, fc_decode_4bit},
+    {"fc_decode_5bit", FC_PROTEIN, fc_decode_5bit},
+};
+
+/* The bytes of a packed file from `offset` on, `len` of them; all others read as zeros. */
+typedef struct { const uint8_t *at; size_t len; uint64_t offset; } lent;
+
+/* A base by its bits, X for a code that no symbol has. */
+static uint8_t base_at(uint64_t alphabet, lent bytes, uint64_t base) {
+    uint64_t bits = alphabets[alphabet].bits, code = 0;
+    for (uint64_t bit = base * bits; bit < (base + 1) * bits; bit++) {
+        uint64_t at = bit / 8 - bytes.offset; /* of a byte before the first a huge number, and none that is lent */
+        code = code << 1 | (at < bytes.len ? bytes.at[at] >> (7 - bit % 8) & 1 : 0);
+    }
+    return (uint8_t)(code < strlen(alphabets[alphabet].symbols) ? alphabets[alphabet].symbols[code] : 'X');
+}
+
+/* A window by an engine and by the one for any alphabet: an empty one is asked nothing, then come 2 and 4; all memory is as it should be. */
+static void hold_window(size_t engine, lent bytes, uint64_t start, uint64_t end, size_t room) {
+    uint8_t out[2][32], after[32];
+    uint64_t far = (uint64_t)1 << 60, alphabet = engines[engine].alphabet, refusal = FC_ACCEPTED, count = start < end ? end - start : 0;
+    if (count && (end > far || bytes.offset > far)) refusal = FC_REFUSED_TOO_FAR;
+    else if (count > room) refusal = FC_REFUSED_SHORT_MEMORY;
+    if (refusal) count = 0;
+    memset(out, 0xA5, sizeof out);
+    memset(after, 0xA5, sizeof after);
+    for (uint64_t i = 0; i < count; i++) after[i] = base_at(alphabet, bytes, start + i);
+    fc_count read[2] = {engines[engine].read(bytes.at, bytes.len, bytes.offset, start, end, out[0], room),
+                        fc_decode_rolling(alphabet, bytes.at, bytes.len, bytes.offset, start, end, out[1], room)};
+    for (int i = 0; i < 2; i++) {
+        const char *name = i ? "fc_decode_rolling" : engines[engine].name;
+        hold(name, read[i].refusal, refusal);
+        hold(name, read[i].count, count);
+        hold(name, !memcmp(out[i], after, sizeof after), 1);
+    }
+}
+
+/* What the header says of the engines: windows up to base 18, which in Protein are two blocks of five bytes and two bases more, lent every run of ten bytes, into
+ * memory that is a byte short, just enough or a byte more; and numbers around their limits. */
+static void hold_engines(void) {
+    static const uint8_t file[10] = {0xE8, 0x3C, 0xFF, 0x1B, 0x39, 0x77, 0x05, 0xD2, 0x9C, 0x61};
+    const uint64_t far = (uint64_t)1 << 60, numbers[] = {0, 1, 9, ((uint64_t)1 << 32) + 1, far - 8, far, far + 1, (uint64_t)1 << 63, UINT64_MAX};
+    const size_t count = sizeof numbers / sizeof *numbers;
+    for (size_t engine = 0; engine < sizeof engines / sizeof *engines; engine++) {
+        for (size_t from = 0; from <= sizeof file; from++)
+            for (size_t to = from; to <= sizeof file; to++) {
+                lent bytes = {file + from, to - from, from};
+                for (uint64_t start = 0; start <= 18; start++)
+                    for (uint64_t end = start; end <= 18; end++)
+                        for (uint64_t room = end - (start < end); room <= end + 1; room++) hold_window(engine, bytes, start, end, (size_t)(room - start));
+            }
+        for (size_t i = 0; i < count * count * count; i++) {
+            lent bytes = {file, sizeof file, numbers[i % count]};
+            hold_window(engine, bytes, numbers[i / count % count], numbers[i / count / count], 0);
+            hold_window(engine, bytes, numbers[i / count % count], numbers[i / count / count], 9);
+        }
     }
 }
 
@@ -485,6 +555,7 @@ int main(void) {
     hold_alphabets();
     hold_refusals();
     hold_codes();
+    hold_engines();
     hold_bad_count();
     hold_asking();
     hold_folding();

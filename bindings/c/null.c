@@ -59,8 +59,11 @@ CALL(substring) { TELL(fc_count, fc_decode_substring_from_bytes(g.alphabet, in.a
 CALL(string) { TELL(fc_count, fc_decode_string_from_bytes(g.alphabet, in.at, in.len, g.end, out.at, out.room)); }
 CALL(covered) { TELL(fc_covered, fc_decode_covered(g.alphabet, in.at, in.len, g.byte_offset, g.start, g.end, out.at, out.room)); }
 CALL(rolling) { TELL(fc_count, fc_decode_rolling(g.alphabet, in.at, in.len, g.byte_offset, g.start, g.end, out.at, out.room)); }
-CALL(two_bits) { TELL(fc_count, fc_decode_2bit(in.at, in.len, g.byte_offset, g.start, g.end, out.at, out.room)); }
-CALL(three_bits) { TELL(fc_count, fc_decode_3bit(in.at, in.len, g.byte_offset, g.start, g.end, out.at, out.room)); }
+#define ENGINE(name) CALL(name) { TELL(fc_count, fc_##name(in.at, in.len, g.byte_offset, g.start, g.end, out.at, out.room)); }
+ENGINE(decode_2bit)
+ENGINE(decode_3bit)
+ENGINE(decode_4bit)
+ENGINE(decode_5bit)
 
 static const struct {
     const char *name;
@@ -79,8 +82,10 @@ static const struct {
     {"fc_decode_string_from_bytes", string},
     {"fc_decode_covered", covered},
     {"fc_decode_rolling", rolling},
-    {"fc_decode_2bit", two_bits},
-    {"fc_decode_3bit", three_bits},
+    {"fc_decode_2bit", decode_2bit},
+    {"fc_decode_3bit", decode_3bit},
+    {"fc_decode_4bit", decode_4bit},
+    {"fc_decode_5bit", decode_5bit},
 };
 
 static const uint64_t far = ((uint64_t)1 << 60) + 1;

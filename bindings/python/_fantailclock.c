@@ -380,6 +380,8 @@ READ(decode_covered, of_covered, "adose", w.alphabet, data, len, w.byte_offset, 
 READ(decode_rolling, of_count, "adose", w.alphabet, data, len, w.byte_offset, w.start, w.end)
 READ(decode_2bit, of_count, "dose", data, len, w.byte_offset, w.start, w.end)
 READ(decode_3bit, of_count, "dose", data, len, w.byte_offset, w.start, w.end)
+READ(decode_4bit, of_count, "dose", data, len, w.byte_offset, w.start, w.end)
+READ(decode_5bit, of_count, "dose", data, len, w.byte_offset, w.start, w.end)
 
 /* Streams */
 
@@ -495,6 +497,8 @@ static PyMethodDef methods[] = {
     BOTH(decode_rolling),
     BOTH(decode_2bit),
     BOTH(decode_3bit),
+    BOTH(decode_4bit),
+    BOTH(decode_5bit),
     MANY(stream_new),
     BOTH(stream_read),
     ONE(stream_end, METH_O),

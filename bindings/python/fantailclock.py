@@ -337,6 +337,8 @@ _FUNCTIONS = {
     "fc_decode_rolling": (fc_count, _N + _MEMORY + 3 * _N + _MEMORY),
     "fc_decode_2bit": (fc_count, _MEMORY + 3 * _N + _MEMORY),
     "fc_decode_3bit": (fc_count, _MEMORY + 3 * _N + _MEMORY),
+    "fc_decode_4bit": (fc_count, _MEMORY + 3 * _N + _MEMORY),
+    "fc_decode_5bit": (fc_count, _MEMORY + 3 * _N + _MEMORY),
     "fc_stream_new": (fc_stream_started, 3 * _N),
     "fc_stream_read": (fc_streamed, [fc_stream] + 2 * _MEMORY),
     "fc_stream_end": (fc_ended, [fc_stream]),
@@ -641,6 +643,8 @@ class _Ctypes:
     decode_rolling, decode_rolling_into = _read_by_ctypes("fc_decode_rolling", 1, 3)
     decode_2bit, decode_2bit_into = _read_by_ctypes("fc_decode_2bit", 0, 3)
     decode_3bit, decode_3bit_into = _read_by_ctypes("fc_decode_3bit", 0, 3)
+    decode_4bit, decode_4bit_into = _read_by_ctypes("fc_decode_4bit", 0, 3)
+    decode_5bit, decode_5bit_into = _read_by_ctypes("fc_decode_5bit", 0, 3)
 
     @staticmethod
     def stream_new(alphabet, skip, budget):
@@ -979,6 +983,30 @@ def decode_3bit_into(
 ) -> int:
     """The engine for Dna3bit, into the front of `out`."""
     return _calls.decode_3bit_into(data, byte_offset, start, end, out)
+
+
+def decode_4bit(data: Buffer, byte_offset: SupportsIndex, start: SupportsIndex, end: SupportsIndex) -> bytes:
+    """The engine for DnaIupac, two bases from one byte."""
+    return _calls.decode_4bit(data, byte_offset, start, end)
+
+
+def decode_4bit_into(
+    data: Buffer, byte_offset: SupportsIndex, start: SupportsIndex, end: SupportsIndex, out: Buffer
+) -> int:
+    """The engine for DnaIupac, two bases from one byte, into the front of `out`."""
+    return _calls.decode_4bit_into(data, byte_offset, start, end, out)
+
+
+def decode_5bit(data: Buffer, byte_offset: SupportsIndex, start: SupportsIndex, end: SupportsIndex) -> bytes:
+    """The engine for Protein, eight bases from five bytes; X for a code that no symbol has."""
+    return _calls.decode_5bit(data, byte_offset, start, end)
+
+
+def decode_5bit_into(
+    data: Buffer, byte_offset: SupportsIndex, start: SupportsIndex, end: SupportsIndex, out: Buffer
+) -> int:
+    """The engine for Protein, eight bases from five bytes, into the front of `out`; X for a code that no symbol has."""
+    return _calls.decode_5bit_into(data, byte_offset, start, end, out)
 
 
 class Status(_Named):

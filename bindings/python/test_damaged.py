@@ -12,6 +12,7 @@ import unittest
 import fantailclock as fc
 from fantailclock import Alphabet
 from test_fantailclock import BITS, Harness, LISTS, answered, codes, covered, pack, packed_len, unpack
+from test_fantailclock import put as put_code
 
 PROTEIN, SYMBOLS, WIDTH = Alphabet.Protein, LISTS[Alphabet.Protein], BITS[Alphabet.Protein]
 NO_SYMBOLS = 29, 30, 31
@@ -19,10 +20,7 @@ NO_SYMBOLS = 29, 30, 31
 
 def put(file, base, code):
     """Writes the code of one base into a file of Protein."""
-    for bit in range(WIDTH):
-        at, place = divmod(base * WIDTH + bit, 8)
-        mask = 0x80 >> place
-        file[at] = file[at] | mask if code >> (WIDTH - 1 - bit) & 1 else file[at] & ~mask
+    put_code(PROTEIN, file, base, code)
 
 
 def packed_codes(found):
@@ -42,6 +40,7 @@ def shown(test, file, start, end):
     bases = fc.decode_substring_from_bytes(PROTEIN, file, start, end)
     test.assertEqual(fc.decode_substring_from_bytes_at_offset(PROTEIN, file, 0, start, end), bases)
     test.assertEqual(fc.decode_rolling(PROTEIN, file, 0, start, end), bases)
+    test.assertEqual(fc.decode_5bit(file, 0, start, end), bases)
     test.assertEqual(fc.decode_string_from_bytes(PROTEIN, file, end)[start:], bases)
     source = io.BytesIO(file[byte_range(start, end)[0] :])
     test.assertEqual(fc.StreamingDecoder.for_window(source, PROTEIN, start, end).read(), bases)

@@ -91,6 +91,15 @@ def pack(alphabet, symbols):
     return bytes(int(codes[at : at + 8], 2) for at in range(0, len(codes), 8))
 
 
+def put(alphabet, file, base, code):
+    """Writes the code of one base into a file; all other bits stay."""
+    width = BITS[alphabet]
+    for bit in range(width):
+        at, place = divmod(base * width + bit, 8)
+        mask = 0x80 >> place
+        file[at] = file[at] | mask if code >> (width - 1 - bit) & 1 else file[at] & ~mask
+
+
 def not_member(alphabet, fold, text):
     """The refusal of a text that has non-members, with its values: the first as it was received, and how many there are; None
     where all are members."""
@@ -113,19 +122,37 @@ def unpack(alphabet, data, offset, start, end):
     return bytes(symbols[code] if code < len(symbols) else ord("X") for code in codes(alphabet, data, offset, start, end))
 
 
-def covered(alphabet, data, offset, start, end, room):
-    """The same for the covered read, into memory of `room` bytes: question by question, the bases or the refusal with its
-    value."""
+def asked(alphabet, offset, start, end, room, lent):
+    """What a read asks of a window, into memory of `room` bytes, question by question; None where nothing refuses it. `lent` tells
+    whether all bytes are that the read must have."""
     if end <= start:
-        return b""
+        return None
     if alphabet > 5:
         return (8,)
     if max(end, offset) > 1 << 60:
         return (2,)
-    if start * BITS[alphabet] // 8 < offset or offset + len(data) < packed_len(alphabet, end):
+    if not lent():
         return (3,)
-    if room < end - start:
-        return (4,)
+    return (4,) if room < end - start else None
+
+
+def filled(alphabet, data, offset, start, end, room):
+    """What a zero-filling read, or an engine, answers: the bases or the refusal."""
+    refusal = asked(alphabet, offset, start, end, room, lambda: True)
+    if refusal or end <= start:
+        return refusal or b""
+    return unpack(alphabet, data, offset, start, end)
+
+
+def covered(alphabet, data, offset, start, end, room):
+    """The same for the covered read, the refusal with its value."""
+
+    def lent():
+        return offset <= start * BITS[alphabet] // 8 and packed_len(alphabet, end) <= offset + len(data)
+
+    refusal = asked(alphabet, offset, start, end, room, lent)
+    if refusal or end <= start:
+        return refusal or b""
     found, symbols = codes(alphabet, data, offset, start, end), LISTS[alphabet]
     lacking = [start + at for at, code in enumerate(found) if code >= len(symbols)]
     return (18, lacking[0]) if lacking else bytes(symbols[code] for code in found)
@@ -271,7 +298,7 @@ class Worked(unittest.TestCase):
             self.assertTrue(answers, line)
             self.assertEqual(answers, [expected] * len(answers), line)
             count, folding = count + 1, folding + (words[0] == "folding")
-        self.assertEqual((count, folding), (147, 27))
+        self.assertEqual((count, folding), (166, 27))
 
     def test_names_numbers_and_bits(self):
         names = ["dna2bit", "dna3bit", "dnaio", "protein", "ASCII", "Unknown"]
@@ -443,14 +470,18 @@ class Harness:
         """The call with input and memory at either end of their pages. `expected` are the bytes at the front of the memory
         afterwards, which the call counts, or its refusal: the number, or the number and its values in a tuple; every byte
         beside them stays."""
-        self.entries.add(entry)
         for from_back in False, True:
             for to_back in False, True:
-                self.calls += 1
                 self.check_at((entry, about, room, from_back, to_back), data, expected, call)
 
+    def check_once(self, entry, about, data, room, expected, call):
+        """The same at one end of each page, the next call at another."""
+        self.check_at((entry, about, room, bool(self.calls & 1), bool(self.calls & 2)), data, expected, call)
+
     def check_at(self, what, data, expected, call):
-        _, _, room, from_back, to_back = what
+        entry, _, room, from_back, to_back = what
+        self.entries.add(entry)
+        self.calls += 1
         pattern = bytes([(0xC3 ^ self.calls) & 255])
         ctypes.memset(self.output.page, pattern[0], PAGE)
         source, out = self.input.lend(from_back, len(data)), self.output.lend(to_back, room)
@@ -469,6 +500,11 @@ class Harness:
         self.test.assertTrue(self.output.content() == after, (what, "memory is not as expected"))
 
 
+ENGINES = {  # of one alphabet, by their plain names
+    Alphabet.Dna2bit: "decode_2bit", Alphabet.Dna3bit: "decode_3bit", Alphabet.DnaIupac: "decode_4bit", Alphabet.Protein: "decode_5bit"
+}
+
+
 def reads(alphabet, offset, start):
     """The zero-filling reads and engines that serve a window, with one shape."""
     yield "fc_decode_substring_from_bytes_at_offset", fc.decode_substring_from_bytes_at_offset_into
@@ -477,10 +513,9 @@ def reads(alphabet, offset, start):
         yield "fc_decode_substring_from_bytes", lambda a, data, _, s, e, out: fc.decode_substring_from_bytes_into(a, data, s, e, out)
     if offset == 0 and start == 0:
         yield "fc_decode_string_from_bytes", lambda a, data, _, __, e, out: fc.decode_string_from_bytes_into(a, data, e, out)
-    if alphabet == Alphabet.Dna2bit:
-        yield "fc_decode_2bit", lambda _, *window: fc.decode_2bit_into(*window)
-    if alphabet == Alphabet.Dna3bit:
-        yield "fc_decode_3bit", lambda _, *window: fc.decode_3bit_into(*window)
+    if alphabet in ENGINES:
+        into = getattr(fc, f"{ENGINES[alphabet]}_into")
+        yield f"fc_{ENGINES[alphabet]}", lambda _, *window: into(*window)
 
 
 def rooms(needed):
@@ -602,11 +637,11 @@ class BetweenGuardPages(unittest.TestCase):
                                    lambda _, out: fc._accepted(fc.lib.fc_display_name(alphabet, out, len(out))).count)
 
     def test_no_entry_point_is_left_out(self):
-        for alphabet in Alphabet.Dna2bit, Alphabet.Dna3bit:
+        for alphabet in ENGINES:
             self.texts(alphabet, True, b"ACgt")
             self.pieces(alphabet, True, b"ACgt", 1)
-            self.window(alphabet, b"\7\7", (0, 2), (0, 4))
-            self.stream(alphabet, b"\7\7", (0, 4))
+            self.window(alphabet, b"\7\7\7", (0, 3), (0, 4))
+            self.stream(alphabet, b"\7\7\7", (0, 4))
         self.test_names()
         lent = set(re.findall(r"^fc_\w+ (fc_\w+)\(.*uint8_t \*", HEADER, re.MULTILINE))
         self.assertEqual(self.harness.entries, lent)
@@ -627,6 +662,7 @@ class BetweenGuardPages(unittest.TestCase):
             "a text too long": lambda: fc.lib.fc_encode_sequence(4, 1, source, 9, guarded.page, PAGE),
             "memory too long": lambda: fc.lib.fc_encode_sequence(4, 1, nine, 9, out, 9),
             "a piece too long to be asked about": lambda: fc.lib.fc_encoder_ask(fc.fc_encoder(), source, 9, 9),
+            "a window's bytes too many": lambda: fc.lib.fc_decode_5bit(source, 9, 0, 0, 14, guarded.page, PAGE),
         }
         for what, trespass in trespasses.items():
             self.assertEqual(self.child(trespass), signal.SIGSEGV, what)
@@ -773,8 +809,12 @@ class Forms(unittest.TestCase):
                 self.assertEqual(fc.decode_substring_from_bytes(alphabet, packed, cut, length), members[cut:])
                 for read in fc.decode_substring_from_bytes_at_offset, fc.decode_covered, fc.decode_rolling:
                     self.assertEqual(read(alphabet, packed, byte_offset=0, start=cut, end=length), members[cut:])
+                if alphabet in ENGINES:
+                    self.assertEqual(getattr(fc, ENGINES[alphabet])(packed, byte_offset=0, start=cut, end=length), members[cut:])
         self.assertEqual(fc.decode_2bit(b"\x1b", 0, 1, 4), b"CAG")
         self.assertEqual(fc.decode_3bit(b"\x05\x39\x77", 0, 2, 6), b"GTNR")
+        self.assertEqual(fc.decode_4bit(b"\x01\x23", 0, 1, 4), b"ACM")
+        self.assertEqual(fc.decode_5bit(b"\x52\x28", 0, 1, 3), b"K*")
 
     def test_every_kind_of_memory(self):
         for kind in bytes, bytearray, memoryview, lambda data: memoryview(bytearray(data))[:]:

@@ -3,6 +3,7 @@
 import enum
 import inspect
 import io
+import itertools
 import pathlib
 import re
 import typing
@@ -10,6 +11,7 @@ import unittest
 
 import fantailclock as fc
 from fantailclock import Alphabet, Status
+from test_fantailclock import ENGINES
 
 HEADER = (pathlib.Path(__file__).resolve().parents[2] / "include/fantailclock.h").read_text()
 
@@ -78,6 +80,9 @@ class Names(unittest.TestCase):
     def test_signatures_are_told(self):
         self.assertEqual(list(inspect.signature(fc.decode_covered).parameters), ["alphabet", "data", "byte_offset", "start", "end"])
         self.assertEqual(fc.decode_covered(alphabet=1, data=b"\x05\x39\x77", byte_offset=0, start=2, end=6), b"GTNR")
+        for name, (form, more) in itertools.product(ENGINES.values(), (("{}", []), ("{}_into", ["out"]))):
+            told = inspect.signature(getattr(fc, form.format(name))).parameters
+            self.assertEqual(list(told), ["data", "byte_offset", "start", "end", *more])
         self.assertEqual(list(inspect.signature(fc.guess_genome).parameters), ["chromosomes", "fold"])
         self.assertEqual(fc.guess_genome(chromosomes=[b"ACGT", b"acgn"], fold=True), Alphabet.Dna3bit)
         self.assertEqual(list(inspect.signature(fc.later_alphabet).parameters), ["one", "other"])

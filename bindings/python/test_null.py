@@ -9,6 +9,7 @@ import unittest
 
 import fantailclock as fc
 from fantailclock import Alphabet, lib
+from test_fantailclock import ENGINES
 
 HEADER = (pathlib.Path(__file__).resolve().parents[2] / "include/fantailclock.h").read_text()
 PATTERN = b"\xc3" * 9
@@ -78,17 +79,15 @@ class Null(unittest.TestCase):
 
     def test_reads(self):
         for alphabet in Alphabet:
-            for entry, serves, first, behind in (
-                ("fc_decode_substring_from_bytes_at_offset", True, [alphabet], 1),
-                ("fc_decode_rolling", True, [alphabet], 1),
-                ("fc_decode_covered", True, [alphabet], 1),
-                ("fc_decode_substring_from_bytes", True, [alphabet], 0),
-                ("fc_decode_string_from_bytes", True, [alphabet], -1),
-                ("fc_decode_2bit", alphabet == Alphabet.Dna2bit, [], 1),
-                ("fc_decode_3bit", alphabet == Alphabet.Dna3bit, [], 1),
+            for entry, first, behind in (
+                ("fc_decode_substring_from_bytes_at_offset", [alphabet], 1),
+                ("fc_decode_rolling", [alphabet], 1),
+                ("fc_decode_covered", [alphabet], 1),
+                ("fc_decode_substring_from_bytes", [alphabet], 0),
+                ("fc_decode_string_from_bytes", [alphabet], -1),
+                *((f"fc_{name}", [], 1) for own, name in ENGINES.items() if own == alphabet),
             ):
-                if serves:
-                    self.read(entry, alphabet, first, [0] * (behind + 1))
+                self.read(entry, alphabet, first, [0] * (behind + 1))
 
     def read(self, entry, alphabet, first, zeros):
         covered = entry == "fc_decode_covered"

@@ -17,6 +17,7 @@ import unittest.mock
 
 import fantailclock as fc
 from fantailclock import Alphabet
+from test_fantailclock import ENGINES
 
 try:
     import numpy
@@ -69,15 +70,15 @@ class Numbers(unittest.TestCase):
             self.assertEqual(read(n(1), PACKED, n(0), n(2), n(6)), b"GTNR")
         self.assertEqual(fc.decode_substring_from_bytes(n(1), PACKED, n(2), n(6)), b"GTNR")
         self.assertEqual(fc.decode_string_from_bytes(n(1), PACKED, n(6)), b"ACGTNR")
-        self.assertEqual(fc.decode_3bit(PACKED, n(0), n(2), n(6)), b"GTNR")
-        self.assertEqual(fc.decode_2bit(b"\x1b", n(0), n(1), n(4)), b"CAG")
         out = bytearray(4)
+        for name, (data, bases) in zip(ENGINES.values(), (("1b", b"CAG"), ("0539", b"CGT"), ("0123", b"ACM"), ("522290", b"KVL"))):
+            read, into, data = getattr(fc, name), getattr(fc, f"{name}_into"), bytes.fromhex(data)
+            self.assertEqual(read(data, n(0), n(1), n(4)), bases)
+            self.assertEqual((into(data, n(0), n(1), n(4), out), out[:3]), (3, bases))
         for into in fc.decode_covered_into, fc.decode_rolling_into, fc.decode_substring_from_bytes_at_offset_into:
             self.assertEqual((into(n(1), PACKED, n(0), n(2), n(6), out), out), (4, b"GTNR"))
         self.assertEqual(fc.decode_substring_from_bytes_into(n(1), PACKED, n(2), n(6), out), 4)
         self.assertEqual(fc.decode_string_from_bytes_into(n(1), PACKED, n(4), out), 4)
-        self.assertEqual(fc.decode_3bit_into(PACKED, n(0), n(2), n(6), out), 4)
-        self.assertEqual(fc.decode_2bit_into(b"\x1b", n(0), n(0), n(4), out), 4)
 
     def streams(self, n):
         self.assertEqual(fc.Stream(n(1), n(6), n(4)).read(PACKED, bytearray(4))[:3], (3, 4, fc.Status.Done))
@@ -157,9 +158,9 @@ class Memory(unittest.TestCase):
                 "stream": lambda: fc.Stream(4, 0, 4).read(*given),
                 "string": lambda: fc.decode_string_from_bytes_into(4, given[0], 4, given[1]),
                 "substring": lambda: fc.decode_substring_from_bytes_into(4, given[0], 0, 4, given[1]),
-                "2bit": lambda: fc.decode_2bit_into(given[0], 0, 0, 4, given[1]),
-                "3bit": lambda: fc.decode_3bit_into(given[0], 0, 0, 4, given[1]),
             }
+            for name in ENGINES.values():
+                calls[name] = lambda into=getattr(fc, f"{name}_into"): into(given[0], 0, 0, 4, given[1])
             for read in fc.decode_covered_into, fc.decode_rolling_into, fc.decode_substring_from_bytes_at_offset_into:
                 calls[read.__name__] = lambda read=read: read(4, given[0], 0, 0, 4, given[1])
             for name, call in calls.items():
@@ -181,6 +182,9 @@ class Memory(unittest.TestCase):
             lambda: fc.encode_sequence_into(0, source, b""),
             lambda: fc.decode_covered(0, source, 0, 0, 99),
             lambda: fc.decode_covered_into(0, source, 0, 0, 9, out),
+            lambda: fc.decode_4bit(source, 0, 0, 99),
+            lambda: fc.decode_5bit_into(source, 0, 0, 9, out),
+            lambda: fc.decode_5bit_into(source, 0, 0, 9, source),
             lambda: fc.SequenceEncoder(0).update(source),
             lambda: fc.SequenceEncoder(0).update_into(source, out),
             lambda: fc.SequenceEncoder(0).ask(source, 9),
@@ -246,6 +250,9 @@ class Kept(unittest.TestCase):
             ("decode_covered", (3, bytearray(b"\xff" * 9), number, (1 << 43) // 5 + 1, Index((1 << 43) // 5 + 9))),
             ("decode_covered_into", (3, bytearray(b"\0\xff"), 0, 0, 3, out)),
             ("decode_covered_into", (3, bytearray(b"\xff" * 5600), 0, 8, 8900, out)),
+            ("decode_4bit", (source, number, 2, 12_000)),
+            ("decode_5bit", (source, 0, 2, 1 << 61)),
+            ("decode_5bit_into", (source, 0, Index(2), 9009, out)),
             ("encode_sequence", (0, False, source)),
             ("encode_sequence", (0, True, source)),
             ("encode_sequence", (0, True, b"ACNT")),
@@ -321,10 +328,10 @@ class Alike(unittest.TestCase):
         "encoder_finalize": "e", "encoder_finalize_into": "eo", "byte_range_for_bases": "nnn", "stream_new": "nnn", "stream_read": "smn",
         "stream_read_into": "smo", "stream_end": "s", "decode_substring_from_bytes_at_offset": "nmnnn",
         "decode_substring_from_bytes": "nmnn", "decode_string_from_bytes": "nmn", "decode_covered": "nmnnn",
-        "decode_rolling": "nmnnn", "decode_2bit": "mnnn", "decode_3bit": "mnnn",
+        "decode_rolling": "nmnnn", "decode_2bit": "mnnn", "decode_3bit": "mnnn", "decode_4bit": "mnnn", "decode_5bit": "mnnn",
         "decode_substring_from_bytes_at_offset_into": "nmnnno", "decode_substring_from_bytes_into": "nmnno",
         "decode_string_from_bytes_into": "nmno", "decode_covered_into": "nmnnno", "decode_rolling_into": "nmnnno",
-        "decode_2bit_into": "mnnno", "decode_3bit_into": "mnnno",
+        "decode_2bit_into": "mnnno", "decode_3bit_into": "mnnno", "decode_4bit_into": "mnnno", "decode_5bit_into": "mnnno",
     }
 
     def argument(self, chance, kind):
@@ -471,7 +478,7 @@ class Found(unittest.TestCase):
 
     def test_an_object_that_is_older_than_a_function(self):
         """A function that is only added does not raise the version; without it the module is not imported, and says why."""
-        for name in "later_alphabet", "encoder_ask":
+        for name in "later_alphabet", "encoder_ask", "decode_4bit", "decode_5bit":
             with tempfile.TemporaryDirectory() as elsewhere:
                 shutil.copy(fc.__file__, elsewhere)
                 self.without(fc.lib._name, elsewhere, f"fc_{name}")

@@ -88,6 +88,8 @@ extern "C" {
     pub fn fc_decode_rolling(alphabet: u64, bytes: *const u8, len: usize, byte_offset: u64, start: u64, end: u64, out: *mut u8, room: usize) -> Count;
     pub fn fc_decode_2bit(bytes: *const u8, len: usize, byte_offset: u64, start: u64, end: u64, out: *mut u8, room: usize) -> Count;
     pub fn fc_decode_3bit(bytes: *const u8, len: usize, byte_offset: u64, start: u64, end: u64, out: *mut u8, room: usize) -> Count;
+    pub fn fc_decode_4bit(bytes: *const u8, len: usize, byte_offset: u64, start: u64, end: u64, out: *mut u8, room: usize) -> Count;
+    pub fn fc_decode_5bit(bytes: *const u8, len: usize, byte_offset: u64, start: u64, end: u64, out: *mut u8, room: usize) -> Count;
 
     pub fn fc_stream_new(alphabet: u64, skip: u64, budget: u64) -> StreamStarted;
     pub fn fc_stream_read(state: Stream, source: *const u8, len: usize, out: *mut u8, room: usize) -> Streamed;

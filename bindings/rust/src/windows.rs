@@ -126,4 +126,11 @@ reads! {
 
     /// The engine for Dna3bit, with the answers of [`decode_substring_from_bytes_at_offset`].
     decode_3bit, decode_3bit_into = fc_decode_3bit(; byte_offset, start, end), start, end;
+
+    /// The engine for DnaIupac, two bases from one byte, with the answers of [`decode_substring_from_bytes_at_offset`].
+    decode_4bit, decode_4bit_into = fc_decode_4bit(; byte_offset, start, end), start, end;
+
+    /// The engine for Protein, eight bases from five bytes, with the answers of [`decode_substring_from_bytes_at_offset`]:
+    /// X for a code that no symbol has, too.
+    decode_5bit, decode_5bit_into = fc_decode_5bit(; byte_offset, start, end), start, end;
 }

@@ -15,10 +15,7 @@ const NO_SYMBOLS: [u8; 3] = [29, 30, 31];
 
 /// Writes the code of one base into a file of Protein.
 fn put(file: &mut [u8], base: usize, code: u8) {
-    for bit in 0..WIDTH {
-        let (at, mask) = ((base * WIDTH + bit) / 8, 0x80 >> ((base * WIDTH + bit) % 8));
-        file[at] = if code >> (WIDTH - 1 - bit) & 1 == 1 { file[at] | mask } else { file[at] & !mask };
-    }
+    model::put(PROTEIN, file, base, code);
 }
 
 /// The first byte of a window of Protein, and the one behind its last.
@@ -73,6 +70,7 @@ fn shown(file: &[u8], start: u64, end: u64) -> Vec<u8> {
     let bases = decode_substring_from_bytes(PROTEIN, file, start, end).unwrap();
     assert_eq!(decode_substring_from_bytes_at_offset(PROTEIN, file, 0, start, end).unwrap(), bases);
     assert_eq!(decode_rolling(PROTEIN, file, 0, start, end).unwrap(), bases);
+    assert_eq!(decode_5bit(file, 0, start, end).unwrap(), bases);
     assert_eq!(decode_string_from_bytes(PROTEIN, file, end).unwrap()[start as usize..], bases);
     let mut streamed = vec![];
     let source = &file[range(start as usize, end as usize).0..];

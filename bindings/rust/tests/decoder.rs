@@ -6,6 +6,7 @@ use fantailclock::*;
 use std::io::{self, BufReader, ErrorKind, Read};
 use support::model;
 use support::random::Random;
+use support::reads::{engine, ENGINES};
 
 /// A source that gives at most `most` bytes a read, is interrupted before every second one, and counts what it gave.
 struct Source<'a> {
@@ -215,10 +216,15 @@ fn vectors_are_what_lent_memory_gets() {
                 assert_eq!(read(alphabet, &packed, 0, start, end).unwrap(), &text[cut..]);
             }
             assert_eq!(decode_substring_from_bytes(alphabet, &packed, start, end).unwrap(), &text[cut..]);
+            if let Some(engine) = engine(alphabet) {
+                assert_eq!((engine.plain)(&packed, 0, start, end).unwrap(), &text[cut..]);
+            }
         }
     }
     assert_eq!(decode_2bit(&[0x1B], 0, 1, 4).unwrap(), b"CAG");
     assert_eq!(decode_3bit(&[0x05, 0x39, 0x77], 0, 2, 6).unwrap(), b"GTNR");
+    assert_eq!(decode_4bit(&[0x01, 0x23], 0, 1, 4).unwrap(), b"ACM");
+    assert_eq!(decode_5bit(&[0x52, 0x28], 0, 1, 3).unwrap(), b"K*");
 }
 
 #[test]
@@ -250,8 +256,10 @@ fn empty_slices_everywhere() {
         let step = Stream::new(alphabet, 0, 1).unwrap().read(&[], &mut []).unwrap();
         assert_eq!((step.taken, step.written, step.status), (0, 0, Status::Full));
     }
-    assert_eq!(decode_2bit_into(&[], 0, 0, 0, &mut []), Ok(0));
-    assert_eq!(decode_3bit_into(&[], 0, 0, 0, &mut []), Ok(0));
+    for engine in &ENGINES {
+        assert_eq!((engine.into)(&[], 0, 0, 0, &mut []), Ok(0));
+        assert_eq!((engine.into)(&[], 0, 0, 1, &mut []), Err(Error::ShortMemory));
+    }
 }
 
 #[test]

@@ -9,6 +9,7 @@ use std::process::Command;
 use support::guard::{Case, Guarded, Harness, Place};
 use support::model;
 use support::random::Random;
+use support::reads::{reads, ENGINES};
 
 const HEADER: &str = include_str!("../../../include/fantailclock.h");
 const CHOICES: [Folding; 2] = [Folding::Off, Folding::On];
@@ -184,36 +185,6 @@ fn pieces(harness: &mut Harness, alphabet: Alphabet, folding: Folding, text: &[u
     }
 }
 
-type Read = fn(Alphabet, &[u8], u64, u64, u64, &mut [u8]) -> Result<usize>;
-
-/// The reads with one shape; each takes the windows for which it is there.
-fn reads(alphabet: Alphabet, offset: u64, start: u64) -> Vec<(&'static str, Read)> {
-    let mut reads: Vec<(&'static str, Read)> = vec![
-        ("fc_decode_substring_from_bytes_at_offset", decode_substring_from_bytes_at_offset_into),
-        ("fc_decode_rolling", decode_rolling_into),
-    ];
-    if offset == 0 {
-        reads.push(("fc_decode_substring_from_bytes", |alphabet, bytes, _, start, end, out| {
-            decode_substring_from_bytes_into(alphabet, bytes, start, end, out)
-        }));
-    }
-    if offset == 0 && start == 0 {
-        reads.push(("fc_decode_string_from_bytes", |alphabet, bytes, _, _, end, out| {
-            decode_string_from_bytes_into(alphabet, bytes, end, out)
-        }));
-    }
-    match alphabet {
-        Alphabet::Dna2bit => reads.push(("fc_decode_2bit", |_, bytes, offset, start, end, out| {
-            decode_2bit_into(bytes, offset, start, end, out)
-        })),
-        Alphabet::Dna3bit => reads.push(("fc_decode_3bit", |_, bytes, offset, start, end, out| {
-            decode_3bit_into(bytes, offset, start, end, out)
-        })),
-        _ => {}
-    }
-    reads
-}
-
 /// A window of a file by every read, lent a run of the file's bytes.
 fn window(harness: &mut Harness, alphabet: Alphabet, file: &[u8], lent: (usize, usize), window: (u64, u64)) {
     let ((from, to), (start, end)) = (lent, window);
@@ -228,7 +199,7 @@ fn window(harness: &mut Harness, alphabet: Alphabet, file: &[u8], lent: (usize, 
                 input: bytes,
                 room,
                 expected: fitting(&bases, room),
-                call: &|bytes, out| read(alphabet, bytes, offset, start, end, out),
+                call: &|bytes, out| read(bytes, offset, start, end, out),
             });
         }
         harness.check(&Case {
@@ -359,13 +330,13 @@ fn names() {
 #[test]
 fn no_entry_point_is_left_out() {
     let mut harness = Harness::new();
-    for alphabet in [Alphabet::Dna2bit, Alphabet::Dna3bit] {
+    for alphabet in ENGINES.iter().map(|engine| engine.alphabet) {
         for folding in CHOICES {
             texts(&mut harness, alphabet, folding, b"ACGT");
             pieces(&mut harness, alphabet, folding, b"ACGT", 1);
         }
-        window(&mut harness, alphabet, &[7; 2], (0, 2), (0, 4));
-        stream(&mut harness, alphabet, &[7; 2], (0, 4));
+        window(&mut harness, alphabet, &[7; 3], (0, 3), (0, 4));
+        stream(&mut harness, alphabet, &[7; 3], (0, 4));
     }
     harness.entries.push("fc_display_name"); // by the test `names`
     let name = |line: &str| line.split_once('(').and_then(|(before, _)| before.rsplit(' ').next().map(String::from));
@@ -377,7 +348,7 @@ fn no_entry_point_is_left_out() {
 }
 
 /// What each child does; every one of them must be stopped.
-const TRESPASSES: [&str; 7] = [
+const TRESPASSES: [&str; 8] = [
     "read behind",
     "read before",
     "write behind",
@@ -385,6 +356,7 @@ const TRESPASSES: [&str; 7] = [
     "a text too long",
     "memory too long",
     "a piece too long to be asked about",
+    "a window's bytes too many",
 ];
 
 fn trespass(what: &str) {
@@ -404,6 +376,7 @@ fn trespass(what: &str) {
             "a piece too long to be asked about" => {
                 _ = raw::fc_encoder_ask(raw::Encoder::default(), text.as_ptr(), 9, u64::MAX)
             }
+            "a window's bytes too many" => _ = raw::fc_decode_5bit(text.as_ptr(), 9, 0, 0, 14, front, 4096),
             other => panic!("no such trespass: {other}"),
         }
     }

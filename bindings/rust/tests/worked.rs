@@ -3,6 +3,7 @@
 mod support;
 
 use fantailclock::*;
+use support::reads::reads;
 use support::table::{bytes, hex, number, rows, text, WORKED};
 
 /// A refusal with its values, as the table writes it.
@@ -73,24 +74,8 @@ fn read(alphabet: Alphabet, words: &[&'static str]) -> Vec<String> {
     let lent = bytes(words[0]);
     let numbers: Vec<u64> = words[1..].iter().map(|word| number(word)).collect();
     let (offset, start, end, room) = (numbers[0], numbers[1], numbers[2], numbers[3] as usize);
-    let mut answers = vec![
-        written(room, bases, |out| {
-            decode_substring_from_bytes_at_offset_into(alphabet, &lent, offset, start, end, out)
-        }),
-        written(room, bases, |out| decode_rolling_into(alphabet, &lent, offset, start, end, out)),
-    ];
-    if offset == 0 {
-        answers.push(written(room, bases, |out| decode_substring_from_bytes_into(alphabet, &lent, start, end, out)));
-    }
-    if offset == 0 && start == 0 {
-        answers.push(written(room, bases, |out| decode_string_from_bytes_into(alphabet, &lent, end, out)));
-    }
-    match alphabet {
-        Alphabet::Dna2bit => answers.push(written(room, bases, |out| decode_2bit_into(&lent, offset, start, end, out))),
-        Alphabet::Dna3bit => answers.push(written(room, bases, |out| decode_3bit_into(&lent, offset, start, end, out))),
-        _ => {}
-    }
-    answers
+    let serving = reads(alphabet, offset, start).into_iter();
+    serving.map(|(_, read)| written(room, bases, |out| read(&lent, offset, start, end, out))).collect()
 }
 
 fn covered(alphabet: Alphabet, words: &[&'static str]) -> Vec<String> {
@@ -191,7 +176,7 @@ fn answers(words: &[&'static str]) -> Vec<String> {
 /// Asks every row and compares.
 fn check_table() {
     let rows = rows(WORKED);
-    assert_eq!(rows.len(), 29 + 14 + 13 + 17 + 54 + 20);
+    assert_eq!(rows.len(), 29 + 14 + 13 + 17 + 54 + 20 + 19);
     for row in rows {
         let answers = answers(&row.words);
         assert!(!answers.is_empty(), "asked of nothing: {}", row.line);

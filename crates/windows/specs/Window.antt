@@ -1,6 +1,6 @@
 -- Windows. States document 01, "Middle: windows", questions 1, 5, 6 and 9 for reads, and request A7 for the covered read.
--- Every zero-filling read is `readAt` and `readMemory`: `decode_rolling` and `decode_substring_from_bytes_at_offset` as they stand, `decode_2bit` and
--- `decode_3bit` with their own alphabet's number, `decode_substring_from_bytes` with offset 0, `decode_string_from_bytes` with offset and start 0.
+-- Every zero-filling read is `readAt` and `readMemory`: `decode_rolling` and `decode_substring_from_bytes_at_offset` as they stand, `decode_2bit`, `decode_3bit`,
+-- `decode_4bit` and `decode_5bit` with their own alphabet's number, `decode_substring_from_bytes` with offset 0, `decode_string_from_bytes` with offset and start 0.
 use Prim.Native.Nat.{ℕ, suc, _+_, _-_}
 use mathlib.Core.Bool.{Bool, cond, _&&_}
 use mathlib.Core.List.{List, [], _∷_, map}

@@ -111,18 +111,24 @@ impl Harness {
     /// The call with input and output memory at either end of their pages; the answer, every byte of the lent memory and
     /// every byte beside it must be as expected.
     pub fn check(&mut self, case: &Case) {
-        if !self.entries.contains(&case.entry) {
-            self.entries.push(case.entry);
-        }
         for from in PLACES {
             for to in PLACES {
-                self.calls += 1;
                 self.check_at(case, from, to);
             }
         }
     }
 
+    /// The same at one end of each page, the next call at another.
+    pub fn check_once(&mut self, case: &Case) {
+        let place = |bit: u32| PLACES[(self.calls >> bit & 1) as usize];
+        self.check_at(case, place(0), place(1));
+    }
+
     fn check_at(&mut self, case: &Case, from: Place, to: Place) {
+        self.calls += 1;
+        if !self.entries.contains(&case.entry) {
+            self.entries.push(case.entry);
+        }
         let pattern = (0xC3 ^ self.calls) as u8;
         let mut expected = vec![pattern; self.output.len];
         if let Ok(bytes) = &case.expected {

@@ -52,6 +52,15 @@ pub fn pack(alphabet: Alphabet, text: &[u8]) -> Vec<u8> {
     packed
 }
 
+/// Writes the code of one base into a file; all other bits stay.
+pub fn put(alphabet: Alphabet, file: &mut [u8], base: usize, code: u8) {
+    let width = bits(alphabet) as usize;
+    for bit in 0..width {
+        let (at, mask) = ((base * width + bit) / 8, 0x80 >> ((base * width + bit) % 8));
+        file[at] = if code >> (width - 1 - bit) & 1 == 1 { file[at] | mask } else { file[at] & !mask };
+    }
+}
+
 /// Accepts a text of members; the refusal of any other has the first non-member as it was received, and how many there are.
 pub fn all_members(alphabet: Alphabet, folding: Folding, text: &[u8]) -> Result<()> {
     let taken = taken(alphabet, folding, text);
@@ -148,21 +157,34 @@ pub fn unpack(alphabet: Alphabet, bytes: &[u8], offset: u64, start: u64, end: u6
     codes(alphabet, bytes, offset, start, end).into_iter().map(|code| *list.get(code).unwrap_or(&b'X')).collect()
 }
 
-/// The same for the covered read, into memory of `room` bytes: question by question.
-pub fn covered(alphabet: Alphabet, bytes: &[u8], offset: u64, start: u64, end: u64, room: u64) -> Result<Vec<u8>> {
+/// What a read asks of a window, into memory of `room` bytes: question by question. An empty window is asked nothing; `lent` tells
+/// whether all bytes are that the read must have.
+fn asked(offset: u64, start: u64, end: u64, room: u64, lent: impl FnOnce() -> bool) -> Result<()> {
     let far = 1 << 60;
     if end <= start {
-        return Ok(vec![]);
+        Ok(())
+    } else if end > far || offset > far {
+        Err(Error::TooFar)
+    } else if !lent() {
+        Err(Error::Uncovered)
+    } else if room < end - start {
+        Err(Error::ShortMemory)
+    } else {
+        Ok(())
     }
-    if end > far || offset > far {
-        return Err(Error::TooFar);
-    }
-    if start * bits(alphabet) / 8 < offset || offset + (bytes.len() as u64) < packed_len(alphabet, end) {
-        return Err(Error::Uncovered);
-    }
-    if room < end - start {
-        return Err(Error::ShortMemory);
-    }
+}
+
+/// What a zero-filling read, or an engine, answers of a window, into memory of `room` bytes.
+pub fn filled(alphabet: Alphabet, bytes: &[u8], offset: u64, start: u64, end: u64, room: u64) -> Result<Vec<u8>> {
+    asked(offset, start, end, room, || true)?;
+    Ok(unpack(alphabet, bytes, offset, start, end))
+}
+
+/// The same for the covered read.
+pub fn covered(alphabet: Alphabet, bytes: &[u8], offset: u64, start: u64, end: u64, room: u64) -> Result<Vec<u8>> {
+    asked(offset, start, end, room, || {
+        start * bits(alphabet) / 8 >= offset && offset + (bytes.len() as u64) >= packed_len(alphabet, end)
+    })?;
     let list = symbols(alphabet);
     let symbol = |(base, code): (u64, usize)| list.get(code).copied().ok_or(Error::NoSymbol { base });
     (start..end).zip(codes(alphabet, bytes, offset, start, end)).map(symbol).collect()
