@@ -56,8 +56,8 @@ fn rolled(
     roll(kind, &table, bytes, offset, start, count, out, 0);
 }
 
-// The same of an alphabet that is read in blocks, unless `look` is asked for and the code of a base is no symbol's. The answer is the first such base, or the window's
-// end. Only Protein has such codes, so that the search is laid out here alone, and the other reads carry nothing of it.
+// The same by the blocks of Dna3bit, DnaIupac or Protein, unless `look` is asked for and the code of a base is no symbol's, which only Protein has. The answer is the
+// first such base, or the window's end. All three stand in this function, which hands no slice on, so that none has to be copied.
 fn looked(
     kind: AlphabetType,
     look: bool,
@@ -92,7 +92,7 @@ fn looked(
     }
 }
 
-// The same by the kind's own engine.
+// The same by the kind's own engine; of the other alphabets every code is a symbol's.
 fn own(
     kind: AlphabetType,
     look: bool,
