@@ -20,6 +20,9 @@ const LACKING: usize = 29;
 // Eleven codes have 55 bits, which are at most 62 with the bits before them in their first byte: eight bytes hold them, wherever in a byte they begin.
 const MANY: usize = 11;
 
+// So few bases are looked at one by one: a number of their bytes, whose count is not known beforehand, takes longer to make.
+const FEW: usize = 4;
+
 // 3 in each of eleven fields of five bits: added to a code from 29 on it carries into the field above.
 const THREES: u64 = 0xC6318C6318C63;
 
@@ -57,11 +60,14 @@ fn pass_many(bytes: &[u8], offset: usize, start: usize, end: usize) -> usize
     start + n * 8
 }
 
-// The same for the rest, all at once; where more than eleven bases are left none is passed.
+// The same for the rest, all at once; where more than eleven bases are left, or few, none is passed.
 fn pass_rest(bytes: &[u8], offset: usize, start: usize, end: usize) -> usize
     requires { ⌜ Lent (now bytes) offset start end ⌝ }
     ensures { λ r. ⌜ Passes (coding Protein) (now (bytes .entry)) offset start r end ⌝ }
 {
+    if end - start < FEW {
+        return start;
+    }
     if MANY < end - start {
         return start;
     }
