@@ -7,6 +7,7 @@ use Prim.Native.Nat.{ℕ, zero, suc, _≤_, _<_, max}
 use native.Mathlib.Nat.{le-of-suc-le-suc, not-suc-le-zero}
 use native.Mathlib.Omega.{arith}
 use borrow.Author.Tests.{le-leb, lt-leb, leb-true, leb-false, eqb-true}
+use denote.Enum.Declared.{tagOf}
 use lib.Count.{trailingZeros}
 use lib.Dec.{leb, eqb, lit≤}
 use lib.ListN.{length, getD, take, List·getD-eq-default}
@@ -28,6 +29,7 @@ use Rattle.alphabet.specs.declared.kind.Named.{Named}
 use Rattle.alphabet.specs.declared.guesser.AlphabetGuesser.{AlphabetGuesser}
 use Rattle.alphabet.specs.declared.guesser.GuesserUpdated.{GuesserUpdated}
 use Rattle.alphabet.specs.declared.guesser.Guessed.{Guessed}
+use Rattle.alphabet.proofs.kind.AlphabetType.{the-type}
 use Rattle.alphabet.proofs.Laws.{folded-append, folded-bytes}
 use Rattle.alphabet.proofs.Turns.{entries-folded}
 use Rattle.alphabet.proofs.Masks.{masked-append, masked-le, masked-sound, zeros-lt, guess-holds}
@@ -124,6 +126,10 @@ kind-number DnaIupac = refl
 kind-number Protein = refl
 kind-number Ascii = refl
 kind-number Unknown = refl
+
+-- a kind's place in the enum: what the arm of a choice that has several kinds is told of
+abbrev pub placeOf : AlphabetType → ℕ
+placeOf = tagOf the-type
 
 pub known-number : (k : AlphabetType) → known (numberOf k) ≡ true
 known-number Dna2bit = refl
