@@ -5,7 +5,7 @@ use mathlib.Core.List.{List}
 use Prim.Native.Nat.{ℕ}
 use lib.ListN.{length}
 use Rattle.windows.specs.Window.{readAt, readMemory}
-use Rattle.record.specs.Made.{RollingCall, TwoBitCall, ThreeBitCall, FourBitCall, FiveBitCall}
+use Rattle.record.specs.Made.{CoveredCall, RollingCall, TwoBitCall, ThreeBitCall, FourBitCall, FiveBitCall}
 use Rattle.record.specs.Decoders.{DecoderCall, at-offset, substring, string, covered, two-bit, three-bit, four-bit, five-bit, rolling, Handed, handed}
 use Rattle.record.specs.Engines.{fillsZero, Rolled, Engines}
 use Rattle.record.proofs.EveryRead.{made-rolling, made-engine}
@@ -43,6 +43,18 @@ engines =
     }
 
 -- ---- every call
+
+-- no decoder is left out but the covered read
+pub others-fill : (c : DecoderCall) → ((d : CoveredCall) → c ≡ covered d → ⊥) → fillsZero c ≡ true
+others-fill (at-offset c) other = refl
+others-fill (substring c) other = refl
+others-fill (string c) other = refl
+others-fill (covered c) other = absurd (other c refl)
+others-fill (two-bit c) other = refl
+others-fill (three-bit c) other = refl
+others-fill (four-bit c) other = refl
+others-fill (five-bit c) other = refl
+others-fill (rolling c) other = refl
 
 -- beside every call of a zero-filling decoder there is one of the rolling engine
 pub every-rolled : (c : DecoderCall) → fillsZero c ≡ true → (r : RollingCall) × Rolled c r
