@@ -8,14 +8,14 @@ use Prim.Native.Nat.{ℕ, zero, suc, _+_, _^_, _≤_, _<_}
 use native.Mathlib.Nat.{pow-le-pow-right, zero-add}
 use native.Mathlib.Omega.{arith}
 use borrow.Author.Tests.{ltb-true, lt-ltb, eq-eqb, ne-eqb, eqb-true}
-use lib.Dec.{T, eqb, leb, ltb, eqb→eq, leb→le, ltb→lt, lit≤, lit<}
-use lib.ListN.{length, getD, take, drop, length-map, length-drop}
+use lib.Dec.{T, eqb, ltb, eqb→eq, lit≤, lit<}
+use lib.ListN.{length, take, drop, length-map, length-drop}
 use lib.Seq.{getD-take, getD-drop, length-take-le}
 use Rattle.bits.specs.Tables.{at, Bytes, bytesOf}
-use Rattle.bits.proofs.Computed.{passes, below, both, and-true, and-false, alike, are-alike}
+use Rattle.bits.proofs.Computed.{passes, below, and-true, and-false, alike, are-alike}
 use Rattle.alphabet.specs.declared.kind.AlphabetType.{AlphabetType}
 use Rattle.alphabet.specs.declared.kind.AlphabetType.the-variants.{Dna2bit, Dna3bit, DnaIupac, Protein, Ascii, Unknown}
-use Rattle.alphabet.specs.Symbols.{coded, dna2bit, dna3bit, dnaIupac, protein, symbolOf, codeOf, among, found, InRow, Coding, listed, plain, coding, checkSymbols}
+use Rattle.alphabet.specs.Symbols.{coded, dna2bit, dna3bit, dnaIupac, protein, symbolOf, codeOf, among, found, Coding, listed, plain, coding, checkSymbols}
 use Rattle.alphabet.specs.Symbols.{upper, canon, folded, folds, through, codingBy}
 use Rattle.alphabet.specs.Bases.{base, Bases, Run}
 use Rattle.alphabet.proofs.Folding as folding
@@ -32,46 +32,6 @@ pub record ListsChecked : Type 0 where
 pub lists-checked : ListsChecked
 unfolding checkSymbols among dna2bit dna3bit dnaIupac protein coded bytesOf
 lists-checked = record { of-dna2bit = tt; of-dna3bit = tt; of-dnaIupac = tt; of-protein = tt }
-
--- ---- where their symbols stand, computed too
-
-in-row : (pairs : List (List ℕ)) → T (passes (λ i. leb 0x20 (symbolOf (getD pairs i [])) && ltb (symbolOf (getD pairs i [])) 0x60) 0 (length pairs)) → InRow pairs
-in-row pairs t i h =
-    let s : ℕ → ℕ = λ i. symbolOf (getD pairs i []) in
-    let p = both (leb 0x20 (s i)) (ltb (s i) 0x60) (below (λ i. leb 0x20 (s i) && ltb (s i) 0x60) (length pairs) t i h) in
-    (leb→le 0x20 (s i) (p .0), ltb→lt (s i) 0x60 (p .1))
-
-pub record ListsInRow : Type 0 where
-  pub of-dna2bit : InRow dna2bit
-  pub of-dna3bit : InRow dna3bit
-  pub of-dnaIupac : InRow dnaIupac
-  pub of-protein : InRow protein
-
-pub lists-in-row : ListsInRow
-unfolding dna2bit dna3bit dnaIupac protein coded bytesOf
-lists-in-row =
-    record { of-dna2bit = in-row dna2bit tt; of-dna3bit = in-row dna3bit tt; of-dnaIupac = in-row dnaIupac tt; of-protein = in-row protein tt }
-
--- so every other byte is no member, and its code FF
-not-listed : (pairs : List (List ℕ)) → InRow pairs → (v : ℕ) → (v < 0x20) ⊎ (0x60 ≤ v) → found symbolOf codeOf 0xff pairs v ≡ 0xff
-unfolding found
-not-listed [] r v o = refl
-not-listed (p ∷ pairs) r v o =
-    rw (ne-eqb v (symbolOf p) (λ e. apart o e (r 0 (omega arith))))
-    (not-listed pairs (λ i h. r (suc i) (omega arith)) v o)
-  where
-    apart : (v < 0x20) ⊎ (0x60 ≤ v) → v ≡ symbolOf p → (0x20 ≤ symbolOf p) × (symbolOf p < 0x60) → ⊥
-    apart (inl l) e h = omega (arith, h .0)
-    apart (inr l) e h = omega (arith, h .1)
-
-pub row-only : (k : AlphabetType) → coding k .width < 8 → (v : ℕ) → (v < 0x20) ⊎ (0x60 ≤ v) → coding k .code v ≡ 0xff
-unfolding coding listed plain
-row-only Dna2bit h = not-listed dna2bit (lists-in-row .of-dna2bit)
-row-only Dna3bit h = not-listed dna3bit (lists-in-row .of-dna3bit)
-row-only DnaIupac h = not-listed dnaIupac (lists-in-row .of-dnaIupac)
-row-only Protein h = not-listed protein (lists-in-row .of-protein)
-row-only Ascii h = absurd (omega arith)
-row-only Unknown h = absurd (omega arith)
 
 -- ---- every alphabet
 

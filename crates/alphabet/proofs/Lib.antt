@@ -1,6 +1,7 @@
 pub mod Folding
 pub mod Pairs
 pub mod Laws
+pub mod Told
 pub mod Masks
 pub mod Turns
 pub mod Calls

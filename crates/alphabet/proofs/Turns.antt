@@ -7,76 +7,86 @@ use Prim.Native.Nat.{ℕ, suc, _+_, _-_, _<_, _≤_}
 use native.Mathlib.Decide.{decLt}
 use native.Mathlib.Numerals.{add-one}
 use native.Mathlib.Omega.{arith}
-use borrow.Author.Tests.{eqb-true, eqb-false, eq-eqb, ne-eqb}
+use borrow.Author.Tests.{eq-eqb, ne-eqb, lt-ltb}
 use lib.Bits.{bitAnd}
 use lib.Dec.{eqb}
-use lib.ListN.{length, getD, set, drop, replicate, length-set, drop-of-length-le}
+use lib.ListN.{length, getD, set, drop, length-set, drop-of-length-le}
 use lib.Seq.{drop-cons, drop-length, getD-drop, getD-set-other}
 use Rattle.bits.specs.Tables.{tabulate, at, Bytes}
-use Rattle.bits.proofs.Tabulated.{length-tabulate, getD-tabulate, is-tabulate, tabulate-ext, front-more, replicate-tabulate, with-at, set-tabulate}
-use Rattle.alphabet.specs.Symbols.{symbolOf, among, found, canon, folded, upper, foldedEntries}
+use Rattle.bits.proofs.Tabulated.{length-tabulate, getD-tabulate, is-tabulate, tabulate-ext, front-more, with-at, set-tabulate}
+use Rattle.alphabet.specs.Symbols.{symbolOf, codeOf, among, found, Coding, listed, plain, canon, folded, upper, foldedEntries}
 use Rattle.alphabet.specs.Guess.{maskOf, masked}
 use Rattle.alphabet.proofs.Folding.{upper-below, upper-above, upper-between, canon-lt}
 use Rattle.alphabet.proofs.Laws.{at-folded, length-folded}
 use Rattle.alphabet.proofs.Masks.{masked-ascii}
+use Rattle.alphabet.proofs.Pairs.{found-or}
 
--- ---- a table filled from a list, read from its end: place j is for the key `keyOf j`, and no two places for one key
+-- ---- a table filled from a list, read from its end: place j is for the key j, and holds `none j` where no pair has that key
 
-module _ (n none : ℕ) (key value : List ℕ → ℕ) (keyOf : ℕ → ℕ) (apart : (j k : ℕ) → keyOf j ≡ keyOf k → j ≡ k) (pairs : List (List ℕ)) where
+module _ (n : ℕ) (none : ℕ → ℕ) (key value : List ℕ → ℕ) (pairs : List (List ℕ)) where
   abbrev pub Filled : ℕ → List ℕ → Type 0
-  Filled i table = table ≡ tabulate n (λ j. found key value none (drop i pairs) (keyOf j))
+  Filled i table = table ≡ tabulate n (λ j. found key value (none j) (drop i pairs) j)
 
   -- nothing is stored yet
-  pub fill-none : Filled (length pairs) (replicate n none)
+  pub fill-none : (table : List ℕ) → table ≡ tabulate n none → Filled (length pairs) table
   unfolding found
-  fill-none =
-      replicate-tabulate n none
-      ∙ sym (ap (λ (l : List (List ℕ)). tabulate n (λ j. found key value none l (keyOf j))) (drop-length pairs))
+  fill-none table e = e ∙ sym (ap (λ (l : List (List ℕ)). tabulate n (λ j. found key value (none j) l j)) (drop-length pairs))
 
   -- the pair before i counts, wherever its key has a place
   counted : (table : List ℕ) (i : ℕ) → 0 < i → i ≤ length pairs → (let p = getD pairs (i - 1) [] in
-      table ≡ tabulate n (λ j. cond (eqb (keyOf j) (key p)) (value p) (found key value none (drop i pairs) (keyOf j)))) → Filled (i - 1) table
+      table ≡ tabulate n (λ j. cond (eqb j (key p)) (value p) (found key value (none j) (drop i pairs) j))) → Filled (i - 1) table
   unfolding found
   counted table i some h e =
       let p : List ℕ = getD pairs (i - 1) [] in
       let up : suc (i - 1) ≡ i = omega arith in
       let less : i - 1 < length pairs = omega arith in
       e
-      ∙ ap (λ (m : ℕ). tabulate n (λ j. found key value none (p ∷ drop m pairs) (keyOf j))) (sym up)
-      ∙ sym (ap (λ (l : List (List ℕ)). tabulate n (λ j. found key value none l (keyOf j))) (drop-cons pairs (i - 1) [] less))
+      ∙ ap (λ (m : ℕ). tabulate n (λ j. found key value (none j) (p ∷ drop m pairs) j)) (sym up)
+      ∙ sym (ap (λ (l : List (List ℕ)). tabulate n (λ j. found key value (none j) l j)) (drop-cons pairs (i - 1) [] less))
 
   -- it is stored at its key's place k
-  pub fill-more : (table : List ℕ) (i k : ℕ) → 0 < i → i ≤ length pairs → keyOf k ≡ key (getD pairs (i - 1) []) → Filled i table
+  pub fill-more : (table : List ℕ) (i k : ℕ) → 0 < i → i ≤ length pairs → k ≡ key (getD pairs (i - 1) []) → Filled i table
       → Filled (i - 1) (set table k (value (getD pairs (i - 1) [])))
   fill-more table i k some h q e =
       let p : List ℕ = getD pairs (i - 1) [] in
-      let f : ℕ → ℕ = λ j. found key value none (drop i pairs) (keyOf j) in
+      let f : ℕ → ℕ = λ j. found key value (none j) (drop i pairs) j in
       counted (set table k (value p)) i some h
-      (ap (λ (t : List ℕ). set t k (value p)) e
-      ∙ set-tabulate n f k (value p)
-      ∙ tabulate-ext n (with-at f k (value p)) _ (λ j l. ap (λ (b : Bool). cond b (value p) (f j)) (same j ∙ ap (eqb (keyOf j)) q)))
-    where
-      same : (j : ℕ) → eqb j k ≡ eqb (keyOf j) (keyOf k)
-      same j = go (eqb j k) refl
-        where
-          go : (b : Bool) → eqb j k ≡ b → b ≡ eqb (keyOf j) (keyOf k)
-          go true e = sym (eq-eqb (keyOf j) (keyOf k) (ap keyOf (eqb-true j k e)))
-          go false e = sym (ne-eqb (keyOf j) (keyOf k) (λ q. eqb-false j k e (apart j k q)))
+      (ap (λ (t : List ℕ). set t k (value p)) e ∙ set-tabulate n f k (value p) ∙ ap (λ (x : ℕ). tabulate n (with-at f x (value p))) q)
 
   -- a pair whose key has no place in the table needs no store
-  pub fill-past : (table : List ℕ) (i : ℕ) → 0 < i → i ≤ length pairs → ((j : ℕ) → j < n → keyOf j ≡ key (getD pairs (i - 1) []) → ⊥) → Filled i table
-      → Filled (i - 1) table
+  pub fill-past : (table : List ℕ) (i : ℕ) → 0 < i → i ≤ length pairs → n ≤ key (getD pairs (i - 1) []) → Filled i table → Filled (i - 1) table
   fill-past table i some h past e =
       let p : List ℕ = getD pairs (i - 1) [] in
-      let f : ℕ → ℕ = λ j. found key value none (drop i pairs) (keyOf j) in
+      let f : ℕ → ℕ = λ j. found key value (none j) (drop i pairs) j in
       counted table i some h
-      (e ∙ tabulate-ext n f _ (λ j l. ap (λ (b : Bool). cond b (value p) (f j)) (sym (ne-eqb (keyOf j) (key p) (past j l)))))
+      (e ∙ tabulate-ext n f _ (λ j l. ap (λ (b : Bool). cond b (value p) (f j)) (sym (ne-eqb j (key p) (λ q. omega arith)))))
 
   -- no pair is left
-  pub fill-done : (table : List ℕ) (i : ℕ) → i ≤ 0 → Filled i table → table ≡ tabulate n (λ j. found key value none pairs (keyOf j))
+  pub fill-done : (table : List ℕ) (i : ℕ) → i ≤ 0 → Filled i table → table ≡ tabulate n (λ j. found key value (none j) pairs j)
   fill-done table i h e =
       let zero′ : i ≡ 0 = omega arith in
-      e ∙ ap (λ (m : ℕ). tabulate n (λ j. found key value none (drop m pairs) (keyOf j))) zero′
+      e ∙ ap (λ (m : ℕ). tabulate n (λ j. found key value (none j) (drop m pairs) j)) zero′
+
+-- ---- a table that gets an alphabet's codes, and keeps its other entries
+
+module _ (entries : List ℕ) where
+  -- what it has at first is what it keeps
+  pub entries-kept : length entries ≡ 256 → entries ≡ tabulate 256 (at entries)
+  entries-kept long = is-tabulate 256 (at entries) 0 entries long (λ v h. refl)
+
+  abbrev pub Laid : Coding → List ℕ → Type 0
+  Laid A table = table ≡ tabulate 256 (λ v. cond (A .member v) (A .code v) (at entries v))
+
+  -- by a list
+  pub laid : (b : ℕ) (pairs : List (List ℕ)) (other : ℕ) (table : List ℕ) → table ≡ tabulate 256 (λ v. found symbolOf codeOf (at entries v) pairs v)
+      → Laid (listed b pairs other) table
+  unfolding listed
+  laid b pairs other table e = e ∙ tabulate-ext 256 _ _ (λ v h. found-or symbolOf codeOf 0xff (at entries v) pairs v)
+
+  -- each byte its own code
+  pub bytes-laid : (table : List ℕ) → table ≡ tabulate 256 (λ v. v) → Laid plain table
+  unfolding plain
+  bytes-laid table e = e ∙ tabulate-ext 256 (λ v. v) _ (λ v h. sym (ap (λ (b : Bool). cond b v (at entries v)) (lt-ltb v 256 h)))
 
 -- ---- a table whose lowercase letters get the entries of their uppercase letters
 

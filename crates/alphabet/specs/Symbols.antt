@@ -1,10 +1,10 @@
 -- Symbols and codes. States document 01, "Leaf 1: symbols and codes", the rule of request A1 for one byte, and for request A7 which codes a list has.
-use Prim.Native.Nat.{ℕ, suc, _-_, _^_, _≤_, _<_}
+use Prim.Native.Nat.{ℕ, suc, _-_, _^_}
 use Prim.Native.Char.{code as ascii}
 use mathlib.Core.Bool.{Bool, true, false, cond, not, _||_, _&&_}
 use mathlib.Core.List.{List, [], _∷_, map}
 use lib.Dec.{eqb, leb, ltb}
-use lib.ListN.{length, getD}
+use lib.ListN.{length}
 use Rattle.bits.specs.Tables.{at, tabulate, bytesOf}
 use Rattle.alphabet.specs.declared.kind.AlphabetType.{AlphabetType}
 use Rattle.alphabet.specs.declared.kind.AlphabetType.the-variants.{Dna2bit, Dna3bit, DnaIupac, Protein, Ascii, Unknown}
@@ -152,8 +152,3 @@ once pair pairs = not (among (map symbolOf pairs) (symbolOf pair)) && not (among
 unfoldable pub checkSymbols : ℕ → List (List ℕ) → Bool
 checkSymbols b [] = true
 checkSymbols b (p ∷ pairs) = fine b p && (once p pairs && checkSymbols b pairs)
-
--- ---- where a list's symbols stand, which an encoding array of 64 entries goes by: among the bytes 20 to 5F
-
-abbrev pub InRow : List (List ℕ) → Type 0
-InRow pairs = (i : ℕ) → i < length pairs → (0x20 ≤ symbolOf (getD pairs i [])) × (symbolOf (getD pairs i []) < 0x60)

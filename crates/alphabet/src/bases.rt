@@ -7,14 +7,14 @@ ghost use Rattle.alphabet.specs.Symbols.{folded};
 ghost use Rattle.alphabet.specs.Bases.{base, Bases, Run};
 
 // Whether a byte is one of the four bases. A and C differ in one bit, so that one comparison tells both.
-fn is_base(x: u8) -> bool
+pub fn is_base(x: u8) -> bool
     ensures { λ r. ⌜ r ≡ base x ⌝ }
 {
     (x & 0xFD == b'A') | (x == b'G') | (x == b'T')
 }
 
 // The bits of a byte that tell a base: with folding all but the one in which a lowercase letter differs from its uppercase letter.
-fn telling_bits(fold: bool) -> u8
+pub fn telling_bits(fold: bool) -> u8
     ensures { λ r. ⌜ r ≡ cond fold 0xdf 0xff ⌝ }
 {
     if fold {

@@ -3,23 +3,7 @@ use crate::kind::AlphabetType;
 use bits::least;
 ghost use mathlib.Core.Path.{_≡_};
 ghost use mathlib.Core.Bool.{_&&_};
-ghost use Rattle.alphabet.specs.Symbols.{canon, folds, foldedEntries};
-
-// What a byte stands for. Only 61 to 7A are letters: the bit in which the cases differ is another matter in other bytes.
-pub fn stands_for(fold: bool, byte: u8) -> u8
-    ensures { λ r. ⌜ r ≡ canon fold byte ⌝ }
-{
-    if !fold {
-        return byte;
-    }
-    if byte < b'a' {
-        return byte;
-    }
-    if b'z' < byte {
-        return byte;
-    }
-    byte - 32
-}
+ghost use Rattle.alphabet.specs.Symbols.{folds, foldedEntries};
 
 // Gives each byte's place in a table the entry of what the byte stands for: with folding 26 entries are copied. A table is folded where it lies, so that who does not
 // fold pays for the question alone.

@@ -1,19 +1,15 @@
 // The four symbol lists, and what follows from them: encoding, decoding, membership.
-use crate::fold::has_effect;
-use crate::fold::stands_for;
 use crate::kind::AlphabetType;
 use bits::place;
 ghost use mathlib.Core.Path.{_≡_};
+ghost use mathlib.Core.Bool.{cond};
 ghost use mathlib.Core.List.{map};
-ghost use Prim.Native.Nat.{_+_};
-ghost use Rattle.bits.specs.Tables.{tabulate};
-ghost use Rattle.alphabet.specs.Symbols.{symbolOf, codeOf, found, among, InRow, coding, codingBy};
+ghost use lib.ListN.{length};
+ghost use Rattle.bits.specs.Tables.{tabulate, at};
+ghost use Rattle.alphabet.specs.Symbols.{symbolOf, codeOf, found, among, coding};
 
 // The encoding table's entry for a byte that is no member.
 pub const INVALID_CODE: u8 = 0xFF;
-
-// The first of the 64 bytes among which all symbols of the four lists stand.
-pub const FIRST_ENCODED: usize = 0x20;
 
 // UCSC's 2bit layout.
 const DNA_2BIT_SYMBOLS: [[u8; 2]; 4] = [[b'T', 0b00], [b'C', 0b01], [b'A', 0b10], [b'G', 0b11]];
@@ -82,19 +78,17 @@ const PROTEIN_SYMBOLS: [[u8; 2]; 29] = [
     [b'J', 0b11100], // L or I
 ];
 
-// The codes of the 64 bytes from FIRST_ENCODED on. The list is read from its end, so that of two pairs with one symbol the first would count.
-fn build_encoding(symbols: &[[u8; 2]]) -> [u8; 64]
-    requires { ⌜ InRow (now symbols) ⌝ }
-    ensures { λ r. ⌜ r ≡ tabulate 64 (λ j. found symbolOf codeOf 0xff (now (symbols .entry)) (0x20 + j)) ⌝ }
+// Gives each symbol's place in a table by the bytes' values the symbol's code. The list is read from its end, so that of two pairs with one symbol the first would
+// count.
+fn lay(symbols: &[[u8; 2]], table: &mut [u8])
+    requires { ⌜ length (now table) ≡ 256 ⌝ }
+    ensures { λ _. ⌜ now (table .exit) ≡ tabulate 256 (λ v. found symbolOf codeOf (at (now (table .entry)) v) (now (symbols .entry)) v) ⌝ }
 {
-    let mut table = [INVALID_CODE; 64];
     let mut i = symbols.len();
     while 0 < i {
         i -= 1;
-        let v = place(symbols[i][0]);
-        table[v - FIRST_ENCODED] = symbols[i][1];
+        table[place(symbols[i][0])] = symbols[i][1];
     }
-    table
 }
 
 // The table of each code's symbol, for codes of at most five bits; a code that the list lacks decodes to `unassigned`.
@@ -125,15 +119,14 @@ fn is_listed(symbols: &[[u8; 2]], byte: u8) -> bool
     false
 }
 
-// The 64 bytes from FIRST_ENCODED on: in Ascii they are their own codes.
-fn identity_64() -> [u8; 64]
-    ensures { λ r. ⌜ r ≡ tabulate 64 (λ j. 0x20 + j) ⌝ }
+// The same where each byte is its own code.
+fn lay_bytes(table: &mut [u8])
+    requires { ⌜ length (now table) ≡ 256 ⌝ }
+    ensures { λ _. ⌜ now (table .exit) ≡ tabulate 256 (λ v. v) ⌝ }
 {
-    let mut table = [0; 64];
-    for j in 0..64usize {
-        table[j] = (FIRST_ENCODED + j) as u8;
+    for v in 0..256usize {
+        table[v] = v as u8;
     }
-    table
 }
 
 // The codes 0 to 31: in Ascii they are their own symbols.
@@ -147,18 +140,18 @@ fn identity_32() -> [u8; 32]
     table
 }
 
-// The codes of the 64 bytes from FIRST_ENCODED on, a non-member's entry being INVALID_CODE: every symbol of the four packed alphabets is among them. To be had
-// once per call, not per byte.
-pub fn encoding_array(kind: AlphabetType) -> [u8; 64]
-    ensures { λ r. ⌜ r ≡ tabulate 64 (λ j. coding kind .code (0x20 + j)) ⌝ }
+// Gives each symbol's place in a table by the bytes' values the symbol's code; all other places stay, so that the caller chooses what they hold. The table is
+// written where it lies: handed out by value it would be copied, which a short piece would notice.
+pub fn lay_codes(kind: AlphabetType, table: &mut [u8; 256])
+    ensures { λ _. ⌜ now (table .exit) ≡ tabulate 256 (λ v. cond (coding kind .member v) (coding kind .code v) (at (now (table .entry)) v)) ⌝ }
 {
     match kind {
-        AlphabetType::Dna2bit => build_encoding(&DNA_2BIT_SYMBOLS),
-        AlphabetType::Dna3bit => build_encoding(&DNA_3BIT_SYMBOLS),
-        AlphabetType::DnaIupac => build_encoding(&DNA_IUPAC_SYMBOLS),
-        AlphabetType::Protein => build_encoding(&PROTEIN_SYMBOLS),
-        AlphabetType::Ascii => identity_64(),
-        AlphabetType::Unknown => identity_64(),
+        AlphabetType::Dna2bit => lay(&DNA_2BIT_SYMBOLS, table),
+        AlphabetType::Dna3bit => lay(&DNA_3BIT_SYMBOLS, table),
+        AlphabetType::DnaIupac => lay(&DNA_IUPAC_SYMBOLS, table),
+        AlphabetType::Protein => lay(&PROTEIN_SYMBOLS, table),
+        AlphabetType::Ascii => lay_bytes(table),
+        AlphabetType::Unknown => lay_bytes(table),
     }
 }
 
@@ -188,11 +181,4 @@ pub fn contains(kind: AlphabetType, byte: u8) -> bool
         AlphabetType::Ascii => true,
         AlphabetType::Unknown => true,
     }
-}
-
-// Whether a byte stands for a symbol of the alphabet, by the choice to fold.
-pub fn takes(kind: AlphabetType, fold: bool, byte: u8) -> bool
-    ensures { λ r. ⌜ r ≡ codingBy fold kind .member byte ⌝ }
-{
-    contains(kind, stands_for(has_effect(fold, kind), byte))
 }
