@@ -1,6 +1,6 @@
 -- The laws of symbols and codes that the crates above cite. They open no definition of this crate: what they know of an alphabet stands here and in Calls.
 use mathlib.Core.Path.{_≡_, refl, sym, ap, ap₂, subst, _∙_}
-use mathlib.Core.Bool.{Bool, true, false, not, _||_, _&&_, true≢false}
+use mathlib.Core.Bool.{Bool, true, false, cond, not, _||_, _&&_, true≢false}
 use mathlib.Core.List.{List, [], _∷_, _++_, map, map-append}
 use mathlib.Core.Logic.{_⊎_, inl, inr}
 use Prim.Native.Char.{code as ascii}
@@ -8,6 +8,7 @@ use Prim.Native.Nat.{ℕ, zero, suc, _+_, _^_, _≤_, _<_}
 use native.Mathlib.Nat.{pow-le-pow-right, zero-add}
 use native.Mathlib.Omega.{arith}
 use borrow.Author.Tests.{ltb-true, lt-ltb, eq-eqb, ne-eqb, eqb-true}
+use lib.Bits.{bitAnd}
 use lib.Dec.{T, eqb, ltb, eqb→eq, lit≤, lit<}
 use lib.ListN.{length, take, drop, length-map, length-drop}
 use lib.Seq.{getD-take, getD-drop, length-take-le}
@@ -395,6 +396,19 @@ pub dna2bit-symbols : (c : ℕ) → c < 4 → coding Dna2bit .symbol c ≡ at (b
 unfolding coding listed found dna2bit coded bytesOf
 dna2bit-symbols c h =
     eqb→eq (coding Dna2bit .symbol c) (at (bytesOf "TCAG") c) (below (λ k. eqb (coding Dna2bit .symbol k) (at (bytesOf "TCAG") k)) 4 tt c h)
+
+-- what a byte is packed as, by the bits that tell a base: T as 0, C as 1, A as 2, and as 3 G and every byte that is no member. Computed, by either choice
+abbrev pub ucscDigit : ℕ → ℕ
+ucscDigit x = cond (eqb x (ascii "T")) 0 (cond (eqb x (ascii "C")) 1 (cond (eqb x (ascii "A")) 2 3))
+
+abbrev toldDigit : Bool → ℕ → Bool
+toldDigit fold v = eqb (cond (codingBy fold Dna2bit .member v) (codingBy fold Dna2bit .code v) 3) (ucscDigit (bitAnd v (cond fold 0xdf 0xff)))
+
+pub dna2bit-digits : (fold : Bool) (v : ℕ) → v < 256
+    → cond (codingBy fold Dna2bit .member v) (codingBy fold Dna2bit .code v) 3 ≡ ucscDigit (bitAnd v (cond fold 0xdf 0xff))
+unfolding coding listed among found dna2bit coded bytesOf upper
+dna2bit-digits true v h = eqb→eq _ _ (below (toldDigit true) 256 tt v h)
+dna2bit-digits false v h = eqb→eq _ _ (below (toldDigit false) 256 tt v h)
 
 -- ---- the four bases
 
