@@ -7,11 +7,12 @@ use native.Mathlib.Omega.{arith}
 use borrow.Author.Count.{below-more}
 use lib.ListN.{length, drop, set}
 use lib.Seq.{getD-set-same, getD-set-other}
-use lib.Pow.{pow-mono, shr-shr, shl-lt, field, mod-mod-pow}
+use lib.Arith.{digits-lt}
+use lib.Pow.{pow-add, pow-mono, shr-shr, field, mod-mod-pow}
 use Rattle.bits.specs.Tables.{tabulate, at, Bytes}
 use Rattle.bits.specs.Streams.{bitAt, word, cut, fields}
 use Rattle.bits.specs.Memory.{putAt}
-use Rattle.bits.proofs.Shifts.{field-is, code-lt, low-lt, push-is, push-byte-is}
+use Rattle.bits.proofs.Shifts.{field-is, code-lt, low-lt, push-byte-is}
 use Rattle.bits.proofs.Words.{word-lt, bit-lt}
 use Rattle.bits.proofs.Tabulated.{length-tabulate, getD-tabulate, tabulate-ext, map-tabulate}
 use Rattle.bits.proofs.Put.{put-front, more-filled}
@@ -48,12 +49,11 @@ module _ (source : List ℕ) (from : ℕ) where
       ∙ sym (word-bytes (at source) small from i)
       ∙ ap (word bytes (from * 8)) next
 
-  -- and a number before them
-  pub gather-push : (acc m w : ℕ) → acc < 2 ^ 8 → m ≤ 5 → Gathered m w
-      → acc * 2 ^ (m * 8 % 64) % 2 ^ 64 + w % 2 ^ (m * 8 % 64) ≡ acc * 2 ^ (m * 8) + word (bitAt 8 (at source)) (from * 8) (m * 8)
-  gather-push acc m w small few e =
-      let room : acc * 2 ^ (m * 8) < 2 ^ 64 = lt-of-lt-of-le (shl-lt 8 (m * 8) small) (pow-mono {i = 8 + m * 8} {j = 64} (omega arith)) in
-      push-is (omega arith) acc w room ∙ ap (λ (x : ℕ). acc * 2 ^ (m * 8) + x) (mod-eq-of-lt (gather-lt m w e) ∙ e)
+  -- and a number before them, which leaves them all in a word
+  pub gather-behind : (acc m w : ℕ) → acc < 2 ^ 8 → m ≤ 5 → Gathered m w → acc * 2 ^ (m * 8) + w < 2 ^ 64
+  gather-behind acc m w small few e =
+      let below : acc * 2 ^ (m * 8) + w < 2 ^ 8 * 2 ^ (m * 8) = digits-lt small (gather-lt m w e) in
+      lt-of-lt-of-le (rw (← pow-add 2 8 (m * 8)) at below) (pow-mono {i = 8 + m * 8} {j = 64} (omega arith))
 
 -- ---- pairs of entries
 

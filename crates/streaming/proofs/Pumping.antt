@@ -15,7 +15,7 @@ use Rattle.streaming.specs.declared.decoder.StreamingDecoder.{StreamingD
 use Rattle.streaming.specs.declared.decoder.Streamed.{Streamed}
 use Rattle.streaming.specs.declared.flow.Flow.{Flow}
 use Rattle.streaming.specs.Stream.{readsBy, sourceBits, used, basesOf, movedBy}
-use Rattle.streaming.specs.Flow.{Level, Reads, Stands, baseAt, filled, withBlock}
+use Rattle.streaming.specs.Flow.{Level, Opened, Reads, Stands, baseAt, filled, withBlock}
 use Rattle.streaming.proofs.Levels.{level-field, level-drop, level-gather, level-same, level-most, fill-none, fill-over}
 use Rattle.streaming.proofs.Blocks.{looked-up, block-written}
 
@@ -27,6 +27,10 @@ more-than-one DnaIupac = omega (arith, widths .of-dnaIupac)
 more-than-one Protein = omega (arith, widths .of-protein)
 more-than-one Ascii = omega (arith, widths .of-ascii)
 more-than-one Unknown = omega (arith, widths .of-unknown)
+
+-- and where it is none of 2, 3 and 4 bits wide, it is 5
+pub last-width : {s : StreamingDecoder} {table : List ℕ} {b : ℕ} → Reads s table b → (b ≡ 2 → ⊥) → (b ≡ 3 → ⊥) → (b ≡ 4 → ⊥) → b ≡ 5
+last-width r not-two not-three not-four = omega (arith, r .some, r .five)
 
 module _ (s : StreamingDecoder) (source : List ℕ) (b : ℕ) (w : b ≡ readsBy s .width) where
   abbrev W : ℕ
@@ -89,6 +93,13 @@ module _ (table : List ℕ) (b : ℕ) (source : List ℕ) (have from first : ℕ
       )
 
 -- ---- the bases of a call
+
+-- none is written
+pub none-yet : (s : StreamingDecoder) (source memory : List ℕ) {f : Flow} → Opened s source f
+    → Stands s source (length memory) f × (memory ≡ filled s source (f .written) memory)
+none-yet s source memory {f} o =
+    let zero : f .written ≡ 0 = o .none in
+    (record { few = o .few; most = omega arith; level = rw zero (o .level) }, rw zero (fill-none s source memory))
 
 -- blocks, and then the rest
 pub blocks-then-rest : (s : StreamingDecoder) (source out₀ out₁ out₂ : List ℕ) {f : Flow} {r : Streamed} → Stands s source (length out₀) f → length out₁ ≡ length out₀

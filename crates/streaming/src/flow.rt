@@ -3,12 +3,12 @@ use crate::decoder::Status;
 use crate::decoder::Streamed;
 use crate::decoder::StreamingDecoder;
 use alphabet::decoding_array;
+use bits::beyond;
 use bits::byte_at;
 use bits::field;
 use bits::least;
 use bits::low;
 use bits::power;
-use bits::push;
 use bits::push_byte;
 ghost use mathlib.Core.Bool.{true, _||_};
 ghost use mathlib.Core.List.{List};
@@ -22,8 +22,8 @@ ghost use Rattle.bits.specs.Streams.{bitAt, word};
 ghost use Rattle.streaming.specs.Stream.{soundStream, readsBy, statusOf, basesOf, movedBy};
 ghost use Rattle.streaming.specs.Flow.{Opened, Reads, Stands, Paired, answeredBy, filled, withBlock, withRun};
 
-// How many bases, and half as many source bytes, are enough that laying pairs of symbols out gains more than it costs.
-const LONG: usize = 2048;
+// What clearing the memory for pairs of symbols costs, told in pairs that are laid out.
+const CLEARED: usize = 64;
 
 // `written` bases are written, and `taken` source bytes are taken; `have` bits, of value `acc`, are taken and not used.
 pub(crate) struct Flow {
@@ -106,7 +106,7 @@ fn gather(source: &[u8], from: usize, m: usize, acc: u64) -> u64
     for i in 0..m {
         bits = push_byte(bits, source[from + i]);
     }
-    push(acc, bits, m * 8)
+    acc * power(m * 8) + bits
 }
 
 // Two bytes as one number, the first in its low half.
@@ -215,7 +215,34 @@ fn blocks(
     }
 }
 
-// Blocks by pairs. Each width has a call of its own, with a literal, so that the compiler makes a loop of its own for it, in which every shift but one is by a literal.
+// Blocks by single symbols. Each width has a call of its own, with literals, so that the compiler makes a loop of its own for it, in which every shift but one is by
+// a literal; the memory for pairs, which no such loop reads, falls away.
+fn by_ones(
+    s: StreamingDecoder,
+    table: &[u8; 32],
+    b: usize,
+    source: &[u8],
+    start: Flow,
+    out: &mut [u8],
+) -> Flow
+    requires { ⌜ Reads s (now table) b × Opened s (now source) start ⌝ }
+    ensures { λ r. ⌜ Stands s (now (source .entry)) (length (now (out .entry))) r ⌝ }
+    ensures { λ r. ⌜ now (out .exit) ≡ filled s (now (source .entry)) (r .written) (now (out .entry)) ⌝ }
+{
+    let none = [0u16; 1024];
+    if b == 2 {
+        return blocks(s, table, &none, false, 2, source, start, out);
+    }
+    if b == 3 {
+        return blocks(s, table, &none, false, 3, source, start, out);
+    }
+    if b == 4 {
+        return blocks(s, table, &none, false, 4, source, start, out);
+    }
+    blocks(s, table, &none, false, 5, source, start, out)
+}
+
+// The same by pairs.
 fn by_pairs(
     s: StreamingDecoder,
     table: &[u8; 32],
@@ -241,7 +268,8 @@ fn by_pairs(
     blocks(s, table, rows, true, 5, source, start, out)
 }
 
-// The blocks of a call: by pairs where it is long.
+// The blocks of a call, if it has any: by pairs where it is long. To lay a pair out takes about as long as four bases gain by it, and these have at most two bytes
+// and a half.
 fn bulk(
     s: StreamingDecoder,
     table: &[u8; 32],
@@ -255,9 +283,11 @@ fn bulk(
     ensures { λ r. ⌜ now (out .exit) ≡ filled s (now (source .entry)) (r .written) (now (out .entry)) ⌝ }
 {
     let limit = least(s.budget as usize, out.len());
-    if least(limit / 2, source.len()) < LONG / 2 {
-        let none = [0u16; 1024];
-        return blocks(s, table, &none, false, b, source, start, out);
+    if limit < 8 {
+        return start;
+    }
+    if beyond(least(limit / 4, source.len() / 2), CLEARED) < power(b * 2) as usize {
+        return by_ones(s, table, b, source, start, out);
     }
     let rows = pairs(table, b);
     by_pairs(s, table, &rows, b, source, start, out)

@@ -1,9 +1,9 @@
 use mathlib.Core.Path.{_≡_, subst}
 use mathlib.Core.Bool.{Bool, true}
 use Prim.Native.Nat.{ℕ, _*_, _^_}
-use native.Mathlib.Omega.{arith}
 use borrow.Author.Needs.{needs}
 use Rattle.streaming.specs.Flow.{Reads, Opened, Paired}
+use Rattle.streaming.proofs.Pumping.{last-width}
 use Rattle.streaming.proofs.flow.by_pairs.Statement.{statement}
 use Rattle.streaming.proofs.flow.by_pairs.Tie as tie
 
@@ -53,8 +53,7 @@ blocks-requires-4 : tie.Need-blocks-requires-4
 blocks-requires-4 c κs =
     let h = c .before in
     let s = not-three (h .before) in
-    let reads = s .pre .0 .0 in
-    handed s 5 (omega (arith, reads .some, reads .five, h .before .before .if1 .left, h .before .if2 .left, h .if3 .left))
+    handed s 5 (last-width (s .pre .0 .0) (h .before .before .if1 .left) (h .before .if2 .left) (h .if3 .left))
 
 same-length-4 : tie.Need-same-length-4
 same-length-4 c = search needs

@@ -1,9 +1,10 @@
-use mathlib.Core.Path.{_≡_, refl, _∙_}
-use Prim.Native.Nat.{_+_, _-_, _≤_}
+use mathlib.Core.Path.{_≡_, refl, ap₂, _∙_}
+use Prim.Native.Nat.{ℕ, _+_, _-_, _*_, _^_, _≤_, _<_}
 use native.Mathlib.Omega.{arith}
 use borrow.Author.Needs.{needs}
 use Rattle.bits.specs.Streams.{word}
-use Rattle.streaming.proofs.Blocks.{Gathered, gather-more, gather-push}
+use Rattle.bits.proofs.Shifts.{power-is}
+use Rattle.streaming.proofs.Blocks.{Gathered, gather-more, gather-behind}
 use Rattle.streaming.proofs.flow.gather.Statement.{statement}
 use Rattle.streaming.proofs.flow.gather.Tie as tie
 
@@ -43,19 +44,40 @@ loop-again c =
           (omega (arith, c .before .before .loop-test .taken, start .pre .1 .0)) (l .loop .inv .1),
     )
 
-mul-push : tie.Need-mul-push Inv-loop μ-loop
-mul-push c = search needs
+mul-power : tie.Need-mul-power Inv-loop μ-loop
+mul-power c = search needs
 
-push-requires : tie.Need-push-requires Inv-loop μ-loop
-push-requires c κs = search needs
+power-requires : tie.Need-power-requires Inv-loop μ-loop
+power-requires c κs = search needs
+
+-- all bytes are joined
+abbrev start : tie.After-loop Inv-loop μ-loop → tie.Start Inv-loop μ-loop
+start e = e .before .before .before
+
+all : (e : tie.After-loop Inv-loop μ-loop) → (let a = start e .args in Gathered (a .source .now) (a .from) (a .m) (e .before .loop .bits))
+all e =
+    let l = e .before .loop in
+    let last : l .i ≡ start e .args .m = omega (arith, l .inv .0, e .loop-test .left) in
+    rw last at (l .inv .1)
+
+-- and the number before them has its place
+place : (p : tie.After-power Inv-loop μ-loop) → p .power .result ≡ 2 ^ (start (p .before) .args .m * 8)
+place p = p .power .ensures ∙ power-is (omega (arith, start (p .before) .pre .1 .0))
+
+fits : (p : tie.After-power Inv-loop μ-loop) → start (p .before) .args .acc * p .power .result + p .before .before .loop .bits < 2 ^ 64
+fits p =
+    let s = start (p .before) in
+    let a = s .args in
+    rw (place p) (gather-behind (a .source .now) (a .from) (a .acc) (a .m) (p .before .before .loop .bits) (s .pre .0) (s .pre .1 .0) (all (p .before)))
+
+mul-result : tie.Need-mul-result Inv-loop μ-loop
+mul-result c = omega (arith, fits c)
+
+add-result : tie.Need-add-result Inv-loop μ-loop
+add-result c = omega (arith, fits c)
 
 returns : tie.Need-returns Inv-loop μ-loop
-returns c =
-    let l = c .before .before in
-    let start = l .before .before in
-    let a = start .args in
-    let all : l .loop .i ≡ a .m = omega (arith, l .loop .inv .0, c .before .loop-test .left) in
-    c .push .ensures ∙ gather-push (a .source .now) (a .from) (a .acc) (a .m) (l .loop .bits) (start .pre .0) (start .pre .1 .0) (rw all at (l .loop .inv .1))
+returns c = ap₂ (λ (x y : ℕ). start (c .before) .args .acc * x + y) (place c) (all (c .before))
 
 pub gather-spec : {M : Type 1} → statement M
 gather-spec =
@@ -70,6 +92,8 @@ gather-spec =
     add-i
     loop-less
     loop-again
-    mul-push
-    push-requires
+    mul-power
+    power-requires
+    mul-result
+    add-result
     returns)
