@@ -52,6 +52,10 @@ pub record Reads (s : StreamingDecoder) (table : List ℕ) (b : ℕ) : Type 0 wh
   pub five : b ≤ 5
   pub entries : table ≡ tabulate 32 (readsBy s .symbol)
 
+-- how many bases the blocks of a call write: budget and space allow for as many blocks, and the source's bytes suffice for as many
+abbrev pub inBlocks : StreamingDecoder → List ℕ → ℕ → ℕ → ℕ
+inBlocks s source room taken = min (min (s .budget) room / 8) ((length source - taken) / readsBy s .width) * 8
+
 -- memory with the eight bases from place n on whose codes, b bits wide, the low bits of a number write
 unfoldable pub withBlock : List ℕ → ℕ → ℕ → ℕ → List ℕ → List ℕ
 withBlock table b w n memory = putAt n (map (at table) (fields b 8 w)) memory

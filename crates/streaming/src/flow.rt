@@ -20,7 +20,7 @@ ghost use Rattle.alphabet.specs.Symbols.{Coding};
 ghost use Rattle.bits.specs.Tables.{at};
 ghost use Rattle.bits.specs.Streams.{bitAt, word};
 ghost use Rattle.streaming.specs.Stream.{soundStream, readsBy, statusOf, basesOf, movedBy};
-ghost use Rattle.streaming.specs.Flow.{Opened, Reads, Stands, Paired, answeredBy, filled, withBlock, withRun};
+ghost use Rattle.streaming.specs.Flow.{Opened, Reads, Stands, Paired, inBlocks, answeredBy, filled, withBlock, withRun};
 
 // What clearing the memory for pairs of symbols costs, told in pairs that are laid out.
 const CLEARED: usize = 64;
@@ -194,7 +194,7 @@ fn blocks(
     out: &mut [u8],
 ) -> Flow
     requires { ⌜ (Reads s (now table) b × (paired ≡ true → Paired (now table) b (2 ^ (b * 2)) (now rows))) × Opened s (now source) start ⌝ }
-    ensures { λ r. ⌜ Stands s (now (source .entry)) (length (now (out .entry))) r ⌝ }
+    ensures { λ r. ⌜ Stands s (now (source .entry)) (length (now (out .entry))) r × (r .written ≡ inBlocks s (now (source .entry)) (length (now (out .entry))) (start .taken)) ⌝ }
     ensures { λ r. ⌜ now (out .exit) ≡ filled s (now (source .entry)) (r .written) (now (out .entry)) ⌝ }
 {
     let have = start.have;
@@ -226,7 +226,7 @@ fn by_ones(
     out: &mut [u8],
 ) -> Flow
     requires { ⌜ Reads s (now table) b × Opened s (now source) start ⌝ }
-    ensures { λ r. ⌜ Stands s (now (source .entry)) (length (now (out .entry))) r ⌝ }
+    ensures { λ r. ⌜ Stands s (now (source .entry)) (length (now (out .entry))) r × (r .written ≡ inBlocks s (now (source .entry)) (length (now (out .entry))) (start .taken)) ⌝ }
     ensures { λ r. ⌜ now (out .exit) ≡ filled s (now (source .entry)) (r .written) (now (out .entry)) ⌝ }
 {
     let none = [0u16; 1024];
@@ -253,7 +253,7 @@ fn by_pairs(
     out: &mut [u8],
 ) -> Flow
     requires { ⌜ (Reads s (now table) b × Paired (now table) b (2 ^ (b * 2)) (now rows)) × Opened s (now source) start ⌝ }
-    ensures { λ r. ⌜ Stands s (now (source .entry)) (length (now (out .entry))) r ⌝ }
+    ensures { λ r. ⌜ Stands s (now (source .entry)) (length (now (out .entry))) r × (r .written ≡ inBlocks s (now (source .entry)) (length (now (out .entry))) (start .taken)) ⌝ }
     ensures { λ r. ⌜ now (out .exit) ≡ filled s (now (source .entry)) (r .written) (now (out .entry)) ⌝ }
 {
     if b == 2 {
@@ -268,8 +268,8 @@ fn by_pairs(
     blocks(s, table, rows, true, 5, source, start, out)
 }
 
-// The blocks of a call, if it has any: by pairs where it is long. To lay a pair out takes about as long as four bases gain by it, and these have at most two bytes
-// and a half.
+// The blocks of a call, if it has any: by pairs where it is long. To lay a pair out costs about what four bases gain by pairs, and four bases take one source byte to
+// two and a half.
 fn bulk(
     s: StreamingDecoder,
     table: &[u8; 32],
@@ -279,7 +279,7 @@ fn bulk(
     out: &mut [u8],
 ) -> Flow
     requires { ⌜ Reads s (now table) b × Opened s (now source) start ⌝ }
-    ensures { λ r. ⌜ Stands s (now (source .entry)) (length (now (out .entry))) r ⌝ }
+    ensures { λ r. ⌜ Stands s (now (source .entry)) (length (now (out .entry))) r × (r .written ≡ inBlocks s (now (source .entry)) (length (now (out .entry))) (start .taken)) ⌝ }
     ensures { λ r. ⌜ now (out .exit) ≡ filled s (now (source .entry)) (r .written) (now (out .entry)) ⌝ }
 {
     let limit = least(s.budget as usize, out.len());

@@ -1,4 +1,4 @@
-use mathlib.Core.Path.{_≡_, refl, _∙_}
+use mathlib.Core.Path.{_≡_, refl, ap, ap₂, _∙_}
 use Prim.Native.Nat.{ℕ, _+_, _-_, _*_, _/_, _^_, _≤_, _<_, min, zero-le}
 use native.Mathlib.Nat.{add-mul, one-mul, mul-le-mul-right, div-mul-le-self, lt-of-lt-of-le}
 use native.Mathlib.Omega.{arith}
@@ -136,10 +136,13 @@ same-length c = c .before .loop .inv .1
 returns : tie.Need-returns Inv-loop μ-loop
 returns c =
     let l = c .before .loop in
-    let s = start (c .before .before) in
-    let all : l .k ≡ c .before .before .least2 .result = omega (arith, l .inv .0, c .loop-test .left) in
+    let w = c .before .before in
+    let s = start w in
+    let left = length (s .args .source .now) - s .args .start .taken in
+    let all : l .k ≡ w .least2 .result = omega (arith, l .inv .0, c .loop-test .left) in
     let done = rw all at (l .inv .2 (s .args .s) (s .pre .0 .0) (s .pre .1 .level)) in
-    (record { few = s .pre .1 .few; most = room (c .before .before); level = done .0 }, done .1)
+    let count = ap (λ (k : ℕ). k * 8) (w .least2 .ensures ∙ ap₂ (λ (x y : ℕ). min (x / 8) (left / y)) (w .before .least .ensures) (s .pre .0 .0 .wide)) in
+    ((record { few = s .pre .1 .few; most = room w; level = done .0 }, count), done .1)
 
 pub blocks-spec : {M : Type 1} → statement M
 blocks-spec =

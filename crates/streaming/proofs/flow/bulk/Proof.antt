@@ -1,3 +1,4 @@
+use native.Mathlib.Omega.{arith}
 use borrow.Author.Needs.{needs}
 use Rattle.streaming.proofs.Pumping.{none-yet}
 use Rattle.streaming.proofs.flow.bulk.Statement.{statement}
@@ -9,7 +10,8 @@ least-requires c κs = search needs
 returns : tie.Need-returns
 returns c =
     let s = c .before .before .before .before in
-    none-yet (s .args .s) (s .args .source .now) (s .args .out .now) (s .pre .1)
+    let none = none-yet (s .args .s) (s .args .source .now) (s .args .out .now) (s .pre .1) in
+    ((none .0, omega (arith, c .before .least .ensures, c .if1 .taken, s .pre .1 .none)), none .1)
 
 least-requires-2 : tie.Need-least-requires-2
 least-requires-2 c κs = search needs

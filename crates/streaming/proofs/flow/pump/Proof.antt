@@ -49,7 +49,7 @@ finish-requires c κs =
     let b = bulk c in
     let d = made b in
     let a = start d .args in
-    let stands = subst (λ (room : ℕ). Stands (a .s) (a .source .now) room (b .bulk .result)) (sym (b .bulk .kept .1 .1 .1 .1 .1 .0)) (b .bulk .ensures .0) in
+    let stands = subst (λ (room : ℕ). Stands (a .s) (a .source .now) room (b .bulk .result)) (sym (b .bulk .kept .1 .1 .1 .1 .1 .0)) (b .bulk .ensures .0 .0) in
     ((reads d, start d .pre .0 .1), (stands, fill-again (a .s) (a .source .now) _ (a .out .now) _ (b .bulk .ensures .1)))
 
 same-length : tie.Need-same-length
@@ -60,7 +60,7 @@ returns c =
     let f = c .before .before in
     let b = bulk (f .before) in
     let a = start (made b) .args in
-    blocks-then-rest (a .s) (a .source .now) (a .out .now) _ _ (b .bulk .ensures .0) (b .bulk .kept .1 .1 .1 .1 .1 .0) (b .bulk .ensures .1)
+    blocks-then-rest (a .s) (a .source .now) (a .out .now) _ _ (b .bulk .ensures .0 .0) (b .bulk .kept .1 .1 .1 .1 .1 .0) (b .bulk .ensures .1)
     (f .finish .ensures .0) (f .finish .ensures .1)
 
 pub pump-spec : {M : Type 1} → statement M
