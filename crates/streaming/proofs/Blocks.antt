@@ -2,22 +2,24 @@
 use mathlib.Core.Path.{_≡_, sym, ap, _∙_}
 use mathlib.Core.List.{List, _++_, map}
 use Prim.Native.Nat.{ℕ, _+_, _-_, _*_, _/_, _%_, _^_, _≤_, _<_}
-use native.Mathlib.Nat.{zero-add, add-mul, one-mul, mul-assoc, add-zero, mod-eq-of-lt, lt-of-lt-of-le, zero-mul, pow-zero, mul-one}
+use native.Mathlib.Nat.{zero-add, add-mul, one-mul, mul-assoc, mul-comm, add-zero, mod-eq-of-lt, lt-of-lt-of-le}
 use native.Mathlib.Omega.{arith}
+use borrow.Author.Count.{below-more}
+use lib.ListN.{length, drop, set}
+use lib.Seq.{getD-set-same, getD-set-other}
 use lib.Arith.{digits-lt}
-use lib.ListN.{length, drop}
-use lib.Pow.{pow-add, pow-mono, shr-shr}
-use Rattle.bits.specs.Tables.{tabulate, at}
+use lib.Pow.{pow-add, pow-mono, shr-shr, field, mod-mod-pow}
+use Rattle.bits.specs.Tables.{tabulate, at, Bytes}
 use Rattle.bits.specs.Streams.{bitAt, word, cut, fields}
 use Rattle.bits.specs.Memory.{putAt}
-use Rattle.bits.proofs.Shifts.{field-is, code-lt}
-use Rattle.bits.proofs.Words.{word-add, word-lt, word-whole, bit-lt}
+use Rattle.bits.proofs.Shifts.{field-is, code-lt, low-lt, push-byte-is}
+use Rattle.bits.proofs.Words.{word-lt, bit-lt}
 use Rattle.bits.proofs.Tabulated.{length-tabulate, getD-tabulate, tabulate-ext, map-tabulate}
 use Rattle.bits.proofs.Put.{put-front, more-filled}
-use Rattle.bits.proofs.Blocks.{cut-within, entryAt}
+use Rattle.bits.proofs.Blocks.{cut-within, entryAt, word-bytes}
 use Rattle.streaming.specs.declared.decoder.StreamingDecoder.{StreamingDecoder}
 use Rattle.streaming.specs.Stream.{readsBy, sourceBits, used}
-use Rattle.streaming.specs.Flow.{Level, baseAt, filled, withBlock}
+use Rattle.streaming.specs.Flow.{Level, Paired, baseAt, filled, withBlock}
 use Rattle.streaming.proofs.Levels.{source-lt, used-add}
 
 -- a field of a number, as an index into a table of 32 entries
@@ -28,45 +30,83 @@ code-is {r} {p} {b} x h l e =
 
 -- ---- bytes gathered behind a number
 
-module _ (source : List ℕ) (from acc : ℕ) where
+module _ (source : List ℕ) (from : ℕ) where
   abbrev bytes : ℕ → ℕ
   bytes = bitAt 8 (at source)
 
+  -- the number that i bytes write
   abbrev pub Gathered : ℕ → ℕ → Type 0
-  Gathered i w = w ≡ acc * 2 ^ (i * 8) + word (bitAt 8 (at source)) (from * 8) (i * 8)
+  Gathered i w = w ≡ word (bitAt 8 (at source)) (from * 8) (i * 8)
 
-  pub gather-none : Gathered 0 acc
-  unfolding word
-  gather-none = sym (rw (zero-mul 8, pow-zero 2, mul-one acc) (omega arith))
+  pub gather-lt : (i w : ℕ) → Gathered i w → w < 2 ^ (i * 8)
+  gather-lt i w e = rw e (word-lt bytes (bit-lt 8 (at source)) (from * 8) (i * 8))
 
-  pub gather-lt : (i w : ℕ) → acc < 2 ^ 8 → i < 5 → Gathered i w → w < 2 ^ 56
-  gather-lt i w small few e =
-      let below : acc * 2 ^ (i * 8) + word bytes (from * 8) (i * 8) < 2 ^ 8 * 2 ^ (i * 8) = digits-lt small (word-lt bytes (bit-lt 8 (at source)) (from * 8) (i * 8)) in
-      let bound : 2 ^ (8 + i * 8) ≤ 2 ^ 56 = pow-mono {i = 8 + i * 8} {j = 56} (omega arith) in
-      rw e (lt-of-lt-of-le (rw (← pow-add 2 8 (i * 8)) at below) bound)
+  pub gather-more : Bytes source → (i w : ℕ) → i < 5 → Gathered i w → w % 2 ^ 56 * 256 + at source (from + i) ≡ word (bitAt 8 (at source)) (from * 8) ((i + 1) * 8)
+  gather-more small i w few e =
+      let next : i * 8 + 8 ≡ (i + 1) * 8 = omega arith in
+      push-byte-is w (at source (from + i)) (lt-of-lt-of-le (gather-lt i w e) (pow-mono {i = i * 8} {j = 56} (omega arith)))
+      ∙ ap (λ (x : ℕ). x * 256 + at source (from + i)) e
+      ∙ sym (word-bytes (at source) small from i)
+      ∙ ap (word bytes (from * 8)) next
 
-  pub gather-more : (i w v : ℕ) → v ≡ at source (from + i) → v < 256 → Gathered i w → {w′ : ℕ} → w′ ≡ w * 2 ^ 8 + v → Gathered (i + 1) w′
-  gather-more i w v q byte e {w′} f =
-      let place : from * 8 + i * 8 ≡ (from + i) * 8 = sym (add-mul from i 8) in
-      let next : i * 8 + 8 ≡ (i + 1) * 8 = sym (add-mul i 1 8) in
-      let last : v ≡ word bytes (from * 8 + i * 8) 8 =
-      sym (mod-eq-of-lt byte) ∙ ap (λ (x : ℕ). x % 2 ^ 8) q ∙ sym (word-whole 8 (at source) (from + i)) ∙ ap (λ (x : ℕ). word bytes x 8) (sym place) in
-      let shifted : acc * 2 ^ (i * 8) * 2 ^ 8 ≡ acc * 2 ^ (i * 8 + 8) = mul-assoc acc (2 ^ (i * 8)) (2 ^ 8) ∙ ap (λ (x : ℕ). acc * x) (sym (pow-add 2 (i * 8) 8)) in
-      let split : word bytes (from * 8) (i * 8 + 8) ≡ word bytes (from * 8) (i * 8) * 2 ^ 8 + word bytes (from * 8 + i * 8) 8 = word-add bytes (from * 8) (i * 8) 8 in
-      let sum : w′ ≡ acc * 2 ^ (i * 8 + 8) + word bytes (from * 8) (i * 8 + 8) = omega (arith, f, e, last, shifted, split) in
-      rw next at sum
+  -- and a number before them, which leaves them all in a word
+  pub gather-behind : (acc m w : ℕ) → acc < 2 ^ 8 → m ≤ 5 → Gathered m w → acc * 2 ^ (m * 8) + w < 2 ^ 64
+  gather-behind acc m w small few e =
+      let below : acc * 2 ^ (m * 8) + w < 2 ^ 8 * 2 ^ (m * 8) = digits-lt small (gather-lt m w e) in
+      lt-of-lt-of-le (rw (← pow-add 2 8 (m * 8)) at below) (pow-mono {i = 8 + m * 8} {j = 64} (omega arith))
 
--- ---- bases spread in memory
+-- ---- pairs of entries
 
--- where base i's code stands
-pub spread-code : (table : List ℕ) (bits have b i left c : ℕ) → i < 8 → left + i * b ≡ have + b * 8 → c ≡ bits / 2 ^ (left - b) % 2 ^ b
-    → at table c ≡ entryAt table b 8 (bits / 2 ^ have) i
-spread-code table bits have b i left c h e f =
-    let rest : ℕ = 8 - 1 - i in
-    let parts : i + 1 + rest ≡ 8 = omega arith in
-    let codes : (i + 1) * b + rest * b ≡ 8 * b = sym (add-mul (i + 1) rest b) ∙ ap (λ (x : ℕ). x * b) parts in
-    let place : left - b ≡ have + rest * b = omega (arith, codes, add-mul i 1 b, one-mul b) in
-    ap (at table) (f ∙ ap (λ (x : ℕ). bits / 2 ^ x % 2 ^ b) place ∙ ap (λ (x : ℕ). x % 2 ^ b) (sym (shr-shr bits have (rest * b))))
+-- one more is laid out
+pub paired-more : (table rows : List ℕ) (b v r : ℕ) → v < length rows → Paired table b v rows → r % 256 ≡ at table (v / 2 ^ b % 2 ^ b) → r / 256 ≡ at table (v % 2 ^ b)
+    → Paired table b (v + 1) (set rows v r)
+paired-more table rows b v r h e f g =
+    below-more _ _
+    (λ k l.
+    let same : at (set rows v r) k ≡ at rows k = getD-set-other rows v k r 0 (λ q. omega arith) in
+    (ap (λ (x : ℕ). x % 256) same ∙ e k l .0, ap (λ (x : ℕ). x / 256) same ∙ e k l .1))
+    (let new : at (set rows v r) v ≡ r = getD-set-same rows v r 0 h in (ap (λ (x : ℕ). x % 256) new ∙ f, ap (λ (x : ℕ). x / 256) new ∙ g))
+
+-- where they stand
+second-place : (b t : ℕ) → t < 4 → (3 - t) * (b * 2) ≡ (8 - 1 - (t * 2 + 1)) * b
+second-place b t h =
+    let even : (3 - t) * 2 ≡ 8 - 1 - (t * 2 + 1) = omega arith in
+    ap (λ (x : ℕ). (3 - t) * x) (mul-comm b 2) ∙ sym (mul-assoc (3 - t) 2 b) ∙ ap (λ (x : ℕ). x * b) even
+
+first-place : (b t : ℕ) → t < 4 → (3 - t) * (b * 2) + b ≡ (8 - 1 - t * 2) * b
+first-place b t h =
+    let one : 8 - 1 - (t * 2 + 1) + 1 ≡ 8 - 1 - t * 2 = omega arith in
+    omega (arith, second-place b t h, add-mul (8 - 1 - (t * 2 + 1)) 1 b, one-mul b, ap (λ (x : ℕ). x * b) one)
+
+-- the entries of a block's pair t: those at the fields 2 t and 2 t + 1
+module _ (table rows : List ℕ) (b w t : ℕ) (all : Paired table b (2 ^ (b * 2)) rows) (four : t < 4) where
+  abbrev two : ℕ
+  two = w / 2 ^ ((3 - t) * (b * 2)) % 2 ^ (b * 2)
+
+  small : two < 2 ^ (b * 2)
+  small = low-lt (w / 2 ^ ((3 - t) * (b * 2))) (b * 2)
+
+  twice : b * 2 ≡ b + b
+  twice = omega arith
+
+  pub pair-first : at rows two % 256 ≡ entryAt table b 8 w (t * 2)
+  pair-first =
+      let x : ℕ = w / 2 ^ ((3 - t) * (b * 2)) in
+      let place : (3 - t) * (b * 2) + b ≡ (8 - 1 - t * 2) * b = first-place b t four in
+      all two small .0
+      ∙ ap (at table)
+      (ap (λ (k : ℕ). x % 2 ^ k / 2 ^ b % 2 ^ b) twice
+      ∙ ap (λ (k : ℕ). k % 2 ^ b) (field x b b)
+      ∙ mod-eq-of-lt (low-lt (x / 2 ^ b) b)
+      ∙ ap (λ (k : ℕ). k % 2 ^ b) (shr-shr w ((3 - t) * (b * 2)) b)
+      ∙ ap (λ (k : ℕ). w / 2 ^ k % 2 ^ b) place)
+
+  pub pair-second : at rows two / 256 ≡ entryAt table b 8 w (t * 2 + 1)
+  pair-second =
+      let x : ℕ = w / 2 ^ ((3 - t) * (b * 2)) in
+      let place : (3 - t) * (b * 2) ≡ (8 - 1 - (t * 2 + 1)) * b = second-place b t four in
+      all two small .1
+      ∙ ap (at table) (ap (λ (k : ℕ). x % 2 ^ k % 2 ^ b) twice ∙ mod-mod-pow x b b ∙ ap (λ (k : ℕ). w / 2 ^ k % 2 ^ b) place)
 
 -- ---- a block within a call
 
@@ -107,7 +147,7 @@ module _ (s : StreamingDecoder) (source : List ℕ) where
   -- eight bases more are in memory
   pub block-written : {table : List ℕ} {bits taken n : ℕ} (have : ℕ) (out out₀ : List ℕ) {new : List ℕ}
       → table ≡ tabulate 32 (readsBy s .symbol) → b ≤ 5 → Level s source bits (have + b * 8) taken n → n + 8 ≤ length out₀
-      → out ≡ filled s source n out₀ → new ≡ withBlock table bits have b n out → new ≡ filled s source (n + 8) out₀
+      → out ≡ filled s source n out₀ → new ≡ withBlock table b (bits / 2 ^ have) n out → new ≡ filled s source (n + 8) out₀
   unfolding withBlock
   block-written {table} {bits} {taken} {n} have out out₀ t five r room e f =
       let xs : List ℕ = map (at table) (fields b 8 (bits / 2 ^ have)) in

@@ -27,6 +27,17 @@ module _ (test : ℕ → Bool) where
           step i l h (yes s) = r .beyond i l (omega arith)
           step i l h (no s) = let q : i ≡ suc m = omega arith in ap test q ∙ e
 
+  -- none that passes is larger
+  pub greatest-most : (m n : ℕ) → n ≤ m → test n ≡ true → n ≤ greatest test m
+  greatest-most m n h e = go (decLt (greatest test m) n)
+    where
+      go : Dec (greatest test m < n) → n ≤ greatest test m
+      go (yes l) =
+          let z : true ≡ false = sym e ∙ greatest-largest m .beyond n l h in
+          let w : _≡_ {A = ℕ} 0 1 = cc in
+          absurd (omega arith)
+      go (no l) = omega arith
+
   -- and it is the only one
   pub largest-greatest : (m n : ℕ) → Largest test m n → n ≡ greatest test m
   unfolding greatest

@@ -21,7 +21,7 @@ use Rattle.streaming.specs.declared.decoder.Streamed.{Streamed}
 use Rattle.streaming.specs.Stream.{readsBy, sourceBits, used, takes, basesOf, statusOf, moved, movedBy}
 use Rattle.streaming.specs.Flow.{Level, baseAt, filled, answeredBy}
 use Rattle.streaming.proofs.Hand.{hand-lt, hand-past, hand-push}
-use Rattle.streaming.proofs.Greatest.{largest-greatest}
+use Rattle.streaming.proofs.Greatest.{greatest-most, largest-greatest}
 
 -- ---- the bits that bases use
 
@@ -142,6 +142,11 @@ module _ {s : StreamingDecoder} {source : List ℕ} {acc have taken n : ℕ} (r 
   unfolding test
   here few = le-leb (takes s n) (length source) (omega (arith, r .within, level-takes few))
 
+  -- bases that are written are some of those that the call writes
+  pub level-most : (room : ℕ) → have < 8 → n ≤ min (s .budget) room → n ≤ basesOf s source room
+  unfolding basesOf test
+  level-most room few h = greatest-most test (min (s .budget) room) n h (here few)
+
   -- the count is the greatest: all that budget and space allow
   pub level-all : (room : ℕ) → have < 8 → n ≡ min (s .budget) room → n ≡ basesOf s source room
   unfolding basesOf test
@@ -193,3 +198,7 @@ module _ (s : StreamingDecoder) (source : List ℕ) where
       ∙ ap (drop (n - m)) (drop-at (tabulate m base) (drop m out₀) m (length-tabulate m base))
       ∙ drop-drop (n - m) m out₀
       ∙ ap (λ (k : ℕ). drop k out₀) (sym sum))
+
+  -- memory with bases written, told of itself
+  pub fill-again : (out out₀ : List ℕ) (n : ℕ) → out ≡ filled s source n out₀ → out ≡ filled s source n out
+  fill-again out out₀ n e = e ∙ sym (fill-over out₀ n n (omega arith)) ∙ ap (filled s source n) (sym e)

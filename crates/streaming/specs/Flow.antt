@@ -1,5 +1,5 @@
 -- Within a call: what the stream's own functions promise each other. Document 01 says nothing of it.
-use Prim.Native.Nat.{ℕ, _+_, _-_, _*_, _/_, _^_, _≤_, _<_}
+use Prim.Native.Nat.{ℕ, _+_, _-_, _*_, _/_, _%_, _^_, _≤_, _<_, min}
 use mathlib.Core.Path.{_≡_}
 use mathlib.Core.List.{List, _++_, map}
 use lib.ListN.{length, drop}
@@ -28,7 +28,14 @@ pub record Level (s : StreamingDecoder) (source : List ℕ) (acc have taken n : 
 -- before the first base: no byte is taken that the skip does not need
 pub record Opened (s : StreamingDecoder) (source : List ℕ) (f : Flow) : Type 0 where
   pub few : f .have < 8
+  pub none : f .written ≡ 0
   pub level : Level s source (f .acc) (f .have) (f .taken) 0
+
+-- with bases written, not more than budget and space allow, fewer bits are at hand than a byte has
+pub record Stands (s : StreamingDecoder) (source : List ℕ) (room : ℕ) (f : Flow) : Type 0 where
+  pub few : f .have < 8
+  pub most : f .written ≤ min (s .budget) room
+  pub level : Level s source (f .acc) (f .have) (f .taken) (f .written)
 
 -- the answer where the loops of a call end, with n bases written and output memory for `room`
 unfoldable pub answeredBy : StreamingDecoder → ℕ → ℕ → ℕ → ℕ → ℕ → Streamed
@@ -38,9 +45,24 @@ answeredBy s acc have taken n room =
 
 -- ---- a block of eight bases
 
--- memory with the eight bases from place n on whose codes, b bits wide, stand above the `have` low bits of a number
-unfoldable pub withBlock : List ℕ → ℕ → ℕ → ℕ → ℕ → List ℕ → List ℕ
-withBlock table bits have b n memory = putAt n (map (at table) (fields b 8 (bits / 2 ^ have))) memory
+-- a packed alphabet's width and its decoding table
+pub record Reads (s : StreamingDecoder) (table : List ℕ) (b : ℕ) : Type 0 where
+  pub wide : b ≡ readsBy s .width
+  pub some : 1 < b
+  pub five : b ≤ 5
+  pub entries : table ≡ tabulate 32 (readsBy s .symbol)
+
+-- how many bases the blocks of a call write: budget and space allow for as many blocks, and the source's bytes suffice for as many
+abbrev pub inBlocks : StreamingDecoder → List ℕ → ℕ → ℕ → ℕ
+inBlocks s source room taken = min (min (s .budget) room / 8) ((length source - taken) / readsBy s .width) * 8
+
+-- memory with the eight bases from place n on whose codes, b bits wide, the low bits of a number write
+unfoldable pub withBlock : List ℕ → ℕ → ℕ → ℕ → List ℕ → List ℕ
+withBlock table b w n memory = putAt n (map (at table) (fields b 8 w)) memory
+
+-- a table's entries two by two, at each number below `all` that two codes write: the first code's in the low half
+abbrev pub Paired : List ℕ → ℕ → ℕ → List ℕ → Type 0
+Paired table b all rows = (v : ℕ) → v < all → (at rows v % 256 ≡ at table (v / 2 ^ b % 2 ^ b)) × (at rows v / 256 ≡ at table (v % 2 ^ b))
 
 -- ---- a run of bytes
 

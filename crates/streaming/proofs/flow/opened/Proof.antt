@@ -1,4 +1,4 @@
-use mathlib.Core.Path.{_∙_}
+use mathlib.Core.Path.{refl, _∙_}
 use native.Mathlib.Omega.{arith}
 use borrow.Author.Needs.{needs}
 use Rattle.bits.proofs.Shifts.{low-is}
@@ -21,7 +21,7 @@ returns c =
     let test = c .before .before in
     let start = test .before .before .before in
     let s = start .args .s in
-    record { few = sound-facts s (start .pre .0) .few; level = open-pending s (start .args .source .now) (start .pre .0) (test .if1 .taken) }
+    record { few = sound-facts s (start .pre .0) .few; none = refl; level = open-pending s (start .args .source .now) (start .pre .0) (test .if1 .taken) }
 
 sub-have : tie.Need-sub-have
 sub-have c = let start = c .before .before .before in omega (arith, sound-facts (start .args .s) (start .pre .0) .skips)
@@ -44,6 +44,7 @@ returns-2 c =
     let s = start .args .s in
     record {
       few = omega (arith, test .if1 .left);
+      none = refl;
       level =
           open-skip s (start .args .source .now) (start .pre .0) (test .if1 .left) (shared-slice-read-low (c .before)) (c .before .shared-slice-known2 .given 0 .fits)
           (c .low .ensures ∙ low-is (omega arith) _);

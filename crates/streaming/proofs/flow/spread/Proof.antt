@@ -1,56 +1,51 @@
 use mathlib.Core.Path.{_≡_, refl, sym, ap, _∙_}
 use mathlib.Core.List.{List}
-use Prim.Native.Nat.{ℕ, _+_, _-_, _*_, _/_, _%_, _^_, _≤_, _<_}
-use native.Mathlib.Nat.{add-mul, one-mul, mul-le-mul-right, zero-mul}
+use Prim.Native.Nat.{ℕ, _-_, _*_, _/_, _%_, _^_, _≤_, _<_, zero-le}
+use native.Mathlib.Nat.{mul-le-mul}
 use native.Mathlib.Omega.{arith}
-use borrow.Author.Needs.{needs}
 use lib.ListN.{length, length-set}
+use borrow.Author.Needs.{needs}
+use Rattle.bits.specs.Tables.{at}
 use Rattle.bits.specs.Memory.{putAt}
-use Rattle.bits.proofs.Put.{Filled, none-filled, one-filled}
 use Rattle.bits.proofs.Blocks.{entryAt, entries-at}
+use Rattle.bits.proofs.Put.{Filled, none-filled, one-filled}
 use Rattle.streaming.specs.Flow.{withBlock}
-use Rattle.streaming.proofs.Blocks.{code-is, spread-code}
+use Rattle.streaming.proofs.Blocks.{code-is}
 use Rattle.streaming.proofs.flow.spread.Statement.{statement}
 use Rattle.streaming.proofs.flow.spread.Tie as tie
 
 abbrev Inv-loop : tie.InvT-loop
-Inv-loop table bits have b out₀ n left₀ i₀ out left i =
-    (i ≤ 8) × (left + i * b ≡ have + b * 8) × Filled (entryAt table b 8 (bits / 2 ^ have)) n out₀ i out × (length out ≡ length out₀)
+Inv-loop table b w out₀ n t₀ out t = (t ≤ 8) × (length out ≡ length out₀) × Filled (entryAt table b 8 w) n out₀ t out
 
 abbrev μ-loop : tie.MeasureT-loop
-μ-loop table bits have b out₀ n left₀ i₀ out left i = 8 - i
-
-mul-left : tie.Need-mul-left Inv-loop μ-loop
-mul-left c = search needs
-
-add-left : tie.Need-add-left Inv-loop μ-loop
-add-left c = search needs
+μ-loop table b w out₀ n t₀ out t = 8 - t
 
 loop-holds : tie.Need-loop-holds Inv-loop μ-loop
-loop-holds c =
-    let a = c .before .args in
-    (search needs, omega (arith, zero-mul (a .b)), none-filled (entryAt (a .table .now) (a .b) 8 (a .bits / 2 ^ a .have)) (a .n) (a .out .now), refl)
+loop-holds c = let a = c .before .args in (zero-le, refl, none-filled (entryAt (a .table .now) (a .b) 8 (a .w)) (a .n) (a .out .now))
 
-abbrev start : tie.After-field Inv-loop μ-loop → tie.Start Inv-loop μ-loop
-start c = c .before .before .before .before
+-- the start, from a turn of the loop, and how many bits stand behind its code
+abbrev start : tie.In-loop Inv-loop μ-loop → tie.Start Inv-loop μ-loop
+start i = i .before .before .before
 
--- there are bits for a base more
-fits : (c : tie.In-loop Inv-loop μ-loop) → c .before .before .before .args .b ≤ c .before .loop .left
-fits c =
-    let a = c .before .before .before .args in
-    let l = c .before .loop in
-    omega (arith, l .inv .1, mul-le-mul-right {m = l .i + 1} {n = 8} (a .b) (omega (arith, c .loop-test .taken)), add-mul (l .i) 1 (a .b), one-mul (a .b))
+abbrev behind : tie.In-loop Inv-loop μ-loop → ℕ
+behind i = (7 - i .before .loop .t) * start i .args .b
 
-sub-left : tie.Need-sub-left Inv-loop μ-loop
-sub-left c = fits c
-
-field-requires : tie.Need-field-requires Inv-loop μ-loop
-field-requires c κs = search needs
+few : (i : tie.In-loop Inv-loop μ-loop) → behind i ≤ 35
+few i = mul-le-mul {n₂ = 7} {m₂ = 5} (omega arith) (start i .pre .0)
 
 -- the code, as an index
 code : (c : tie.After-field Inv-loop μ-loop)
-    → (c .field .result ≡ start c .args .bits / 2 ^ (c .before .before .loop .left - start c .args .b) % 2 ^ start c .args .b) × (c .field .result < 32)
-code c = code-is _ (omega (arith, c .before .before .loop .inv .1, start c .pre)) (start c .pre .1 .0) (c .field .ensures)
+    → (c .field .result ≡ start (c .before) .args .w / 2 ^ behind (c .before) % 2 ^ start (c .before) .args .b) × (c .field .result < 32)
+code c = code-is _ (omega (arith, few (c .before))) (start (c .before) .pre .0) (c .field .ensures)
+
+sub-field : tie.Need-sub-field Inv-loop μ-loop
+sub-field c = search needs
+
+mul-field : tie.Need-mul-field Inv-loop μ-loop
+mul-field c = omega (arith, few c)
+
+field-requires : tie.Need-field-requires Inv-loop μ-loop
+field-requires c κs = search needs
 
 element-copy-out-out : tie.Need-element-copy-out-out Inv-loop μ-loop
 element-copy-out-out c = omega (arith, code c .1)
@@ -61,39 +56,34 @@ add-out c = search needs
 slice-write-out : tie.Need-slice-write-out Inv-loop μ-loop
 slice-write-out c = search needs
 
-add-i : tie.Need-add-i Inv-loop μ-loop
-add-i c = search needs
+add-t : tie.Need-add-t Inv-loop μ-loop
+add-t c = search needs
 
 loop-less : tie.Need-loop-less Inv-loop μ-loop
 loop-less c = search needs
 
 loop-again : tie.Need-loop-again Inv-loop μ-loop
 loop-again c =
-    let turn = c .before .before in
-    let at-loop = turn .before in
-    let l = at-loop .loop in
-    let start = at-loop .before .before in
-    let a = start .args in (
-      search needs,
-      omega (arith, l .inv .1, fits turn, add-mul (l .i) 1 (a .b), one-mul (a .b)),
-      one-filled (entryAt (a .table .now) (a .b) 8 (a .bits / 2 ^ a .have)) (a .n) (a .out .now) (l .i) (l .out) (l .inv .2) _
-          (omega (arith, turn .loop-test .taken, start .pre))
-          (spread-code (a .table .now) (a .bits) (a .have) (a .b) (l .i) (l .left) (c .before .field .result) (omega (arith, turn .loop-test .taken)) (l .inv .1)
-          (code (c .before) .0)),
-      simp length-set (l .inv .3),
+    let f = c .before in
+    let i = f .before in
+    let l = i .before .loop in
+    let a = start i .args in (
+      omega (arith, i .loop-test .taken),
+      length-set (l .out) _ _ ∙ l .inv .1,
+      one-filled (entryAt (a .table .now) (a .b) 8 (a .w)) (a .n) (a .out .now) (l .t) (l .out) (l .inv .2) _ (omega (arith, i .loop-test .taken, start i .pre .1))
+          (ap (at (a .table .now)) (code f .0)),
     )
 
 same-length : tie.Need-same-length Inv-loop μ-loop
-same-length c = c .before .loop .inv .3
+same-length c = c .before .loop .inv .1
 
 returns : tie.Need-returns Inv-loop μ-loop
 unfolding withBlock
 returns c =
     let l = c .before .loop in
     let a = c .before .before .before .args in
-    let all : l .i ≡ 8 = omega (arith, l .inv .0, c .loop-test .left) in
-    rw all at (l .inv .2)
-    ∙ ap (λ (xs : List ℕ). putAt (a .n) xs (a .out .now)) (sym (entries-at (a .table .now) (a .b) 8 (a .bits / 2 ^ a .have)))
+    let all : l .t ≡ 8 = omega (arith, l .inv .0, c .loop-test .left) in
+    rw all at (l .inv .2) ∙ ap (λ (xs : List ℕ). putAt (a .n) xs (a .out .now)) (sym (entries-at (a .table .now) (a .b) 8 (a .w)))
 
 pub spread-spec : {M : Type 1} → statement M
 spread-spec =
@@ -101,15 +91,14 @@ spread-spec =
     (tie.spec
     Inv-loop
     μ-loop
-    mul-left
-    add-left
     loop-holds
-    sub-left
+    sub-field
+    mul-field
     field-requires
     element-copy-out-out
     add-out
     slice-write-out
-    add-i
+    add-t
     loop-less
     loop-again
     same-length
