@@ -1,6 +1,6 @@
-"""The tables `Before and after` of the benchmark page: what a change request did to rows that it speaks of, in one process with the archive before it.
+"""The tables `Before and after` of the benchmark page: what a change did to rows that it speaks of, in one process with the archive before it.
 
-Their figures are the files of compare/landed, one for each request that has some, as `compare/turns --keep` writes them: facts of the run, an empty line,
+Their figures are the files of compare/landed, one for each change that has some, as `compare/turns --keep` writes them: facts of the run, an empty line,
 then for each row, at each of four places, its name, the best times before and now in nanoseconds, their ratio, and the median of the rounds' ratios.
 """
 
@@ -11,9 +11,14 @@ FOLDER = pathlib.Path(__file__).resolve().parent / "landed"
 
 ALPHABETS = ["Dna2bit", "Dna3bit", "DnaIupac", "Protein", "Ascii"]
 PACKING = [f"{calls} {alphabet}" for calls in ("update 64", "update 4096", "update 65536", "encode_sequence") for alphabet in ALPHABETS]
+LONG_PACKING = [row for row in PACKING if not row.startswith("update 64 ")]
+STREAMS = [f"stream 65536 {alphabet}" for alphabet in ALPHABETS]
+GUESSES = [f"guess {alphabet}" for alphabet in ALPHABETS[:4]] + [f"guesser_update {n} Dna2bit" for n in (64, 4096, 65536)]
+LONG_WINDOWS = [f"window {n} {read} {alphabet}" for n in (100, 1000, 100000) for read in ("zero-filling", "covered") for alphabet in ALPHABETS]
 COVERED = [f"window {n} covered {alphabet}" for n in (1000, 100000) for alphabet in ALPHABETS if alphabet != "Protein"]
 
-# For each request what it changed, and what is asked of the ratio now / before: the goal in words, the largest ratio that meets it, and the rows.
+# For each change, a request or what NAMES calls it: what it did, and what is asked of the ratio now / before, as the goal in words, the largest ratio that
+# meets it, and the rows.
 REQUESTS = {
     "A3": ("a window of Dna2bit is read by arithmetic, and no call fills rows", [
         ("window of one base: not slower than before", 1.0, ["window 1 zero-filling Dna2bit", "window 1 covered Dna2bit"]),
@@ -36,7 +41,14 @@ REQUESTS = {
         ("windows of 1 and of 10 bases of these two, both reads: not slower than before", 1.0,
             [f"window {n} {read} {alphabet}" for n in (1, 10) for read in ("zero-filling", "covered") for alphabet in ("DnaIupac", "Protein")]),
     ]),
+    "speed-1": ("packing, the search for non-members, whole decodes of Dna3bit and the stream have faster loops", [
+        ("`update` with pieces of 4,096 and of 65,536 bytes, and `encode_sequence`: not slower than before", 1.0, LONG_PACKING),
+        ("stream in reads of 64 KiB: not slower than before", 1.0, STREAMS),
+        ("guesses, whole and in pieces: within a twentieth of what they were", 1.05, GUESSES),
+        ("windows of 100 bases and more, both reads: within a twentieth of what they were", 1.05, LONG_WINDOWS),
+    ]),
 }
+NAMES = {"speed-1": "the faster loops"}
 
 
 def figures(request):
@@ -78,7 +90,7 @@ def sections(table, why):
     for request, (words, goals) in REQUESTS.items():
         facts, rows = figures(request)
         told, missed = goals_met(goals, rows)
-        parts += [f"## Before and after request {request}\n",
+        parts += [f"## Before and after {NAMES.get(request, f'request {request}')}\n",
                   f"{words[0].upper()}{words[1:]}. Both archives in one process, by turns, linked at four places (`compare/turns`); the ratios are of best times.\n",
                   table(["", ""], facts).replace("--:", "---"), table(["goal", "at most", "largest now / before", "verdict"], told)]
         parts += [f"- {name}, {ratio:.3f} where {most:.3f} is asked: {why.get(name, 'no reason given')}\n" for name, ratio, most in missed]

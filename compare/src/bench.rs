@@ -18,7 +18,7 @@ use measure::Bench;
 use oracle::digest::alphabet::{lookup_alphabet, Alphabet, AlphabetType};
 use std::process::ExitCode;
 
-const USAGE: &str = "usage: bench [--rounds N] [--mebi N] [--tsv FILE] [WORD ..]
+const USAGE: &str = "usage: compare/bench [--rounds N] [--mebi N] [--tsv FILE] [WORD ..]
   --mebi N   length of the long rows in units of 1,048,576 bases (16)
   WORD ..    only rows whose name holds one of the words";
 
@@ -59,7 +59,6 @@ fn bench() -> Result<Bench, String> {
         match argument.as_str() {
             "--rounds" => found.rounds = number()?,
             "--mebi" => found.long = number()? << 20,
-            "--tsv" => found.file = Some(arguments.next().ok_or(USAGE)?),
             word if word.starts_with('-') => return Err(USAGE.to_string()),
             word => found.words.push(word.to_string()),
         }
@@ -83,11 +82,5 @@ fn main() -> ExitCode {
         windows::rows(&mut bench, sample);
         streaming::rows(&mut bench, sample);
     }
-    match bench.finish() {
-        Ok(()) => ExitCode::SUCCESS,
-        Err(error) => {
-            eprintln!("bench: {error}");
-            ExitCode::FAILURE
-        }
-    }
+    ExitCode::SUCCESS
 }

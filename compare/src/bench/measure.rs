@@ -1,25 +1,9 @@
-//! Rounds, clocks and the table.
+//! Rounds, clocks and the figures that are printed.
 
-use std::fmt::Write;
 use std::hint::black_box;
 use std::time::Instant;
 
-const LEGEND: &str = "\
-Mb/s: millions of bases a second; ns: nanoseconds a call. Ratios are of best times: below 1 the port is faster.
-memcpy copies as many bytes as the call writes (a guess: reads). The Rust returns a new Vec, the port writes into
-memory lent to it: alloc is the share of the Rust's best time that allocating and touching such a Vec takes by itself,
-and P/(R-a) the ratio without it. Some rows have the port beside itself too, in the same rounds, on a plain text, and
-P/plain is the ratio to that. In a row `genome ..` the port guesses chromosomes one by one and combines the guesses, and
-the Rust guesses them joined. In a row `folded ..` the port folds a soft-masked text; plain is the same in uppercase,
-not folded, which the Rust gets as well. In a row `bad ..` port and Rust pack nothing but non-members, in a row
-`stray ..` a text with one non-member in its first piece; plain is a text of members. In a row `damaged ..` the last
-code of each window is no symbol's, and the port's covered read refuses where the Rust shows X; plain is the same
-windows with no such code. In a row `ask ..` the port is asked what packing each piece would do and writes nothing, and
-the Rust, which can tell only by packing, packs the pieces; plain is the port's update of them, and P/plain the share of
-an update's time that an ask takes.
-";
-
-/// The columns of the file that --tsv asks for: sizes of one call, times of one call in nanoseconds, ratios of best times.
+/// The columns that are printed, with tabs between: sizes of one call, times of one call in nanoseconds, ratios of best times.
 /// Where the Rust returns no Vec, `allocated` and `alloc_best_ns` are 0. Where the port is not beside itself, what is told
 /// of a plain text is 0.
 const COLUMNS: [&str; 18] = [
@@ -59,10 +43,8 @@ pub struct Bench {
     pub rounds: usize,
     /// Bases of the long rows.
     pub long: usize,
-    pub file: Option<String>,
     /// Rows are measured only if their name holds one of these; all, if there are none.
     pub words: Vec<String>,
-    table: String,
     buffers: [Vec<u8>; 2],
 }
 
@@ -84,25 +66,12 @@ struct Figures {
 
 impl Bench {
     pub fn new() -> Bench {
-        Bench {
-            rounds: 7,
-            long: 16 << 20,
-            file: None,
-            words: Vec::new(),
-            table: String::new(),
-            buffers: [Vec::new(), Vec::new()],
-        }
+        Bench { rounds: 7, long: 16 << 20, words: Vec::new(), buffers: [Vec::new(), Vec::new()] }
     }
 
-    pub fn header(&mut self) {
-        println!("Rounds: {}. Long rows: {} bases.", self.rounds, self.long);
-        print!("{LEGEND}");
-        let names = ["port", "median", "Rust", "median", "memcpy"].map(|name| format!("{name:>10}")).concat();
-        println!(
-            "{:36}{:>5}{names}{:>7}{:>9}{:>9}{:>9}{:>9}",
-            "row", "", "alloc", "P/R", "P/copy", "P/(R-a)", "P/plain"
-        );
-        self.table = COLUMNS.join("\t") + "\n";
+    pub fn header(&self) {
+        eprintln!("rounds: {}; bases of a long row: {}", self.rounds, self.long);
+        println!("{}", COLUMNS.join("\t"));
     }
 
     pub fn wants(&self, name: &str) -> bool {
@@ -145,35 +114,16 @@ impl Bench {
         self.print(row, &Figures { port, rust, plain, copy, alloc });
     }
 
-    fn print(&mut self, row: &Row, figures: &Figures) {
+    fn print(&self, row: &Row, figures: &Figures) {
         let Figures { port, rust, plain, copy, alloc } = figures;
-        let unit = if row.calls == 1 { "Mb/s" } else { "ns" };
-        let show = |time: f64| match row.calls {
-            1 => format!("{:>10.0}", row.bases as f64 * 1e3 / time),
-            _ => format!("{time:>10.1}"),
-        };
-        let times = [port.best, port.median, rust.best, rust.median, copy.best].map(show).concat();
-        let share =
-            if row.allocated == 0 { "-".to_string() } else { format!("{:.1}%", 100.0 * alloc.best / rust.best) };
         let of = [rust.best, copy.best, rust.best - alloc.best, plain.best];
         let ratios = of.map(|time| if time > 0.0 { port.best / time } else { 0.0 });
-        let shown = ratios.map(|ratio| if ratio > 0.0 { format!("{ratio:>9.2}") } else { String::new() }).concat();
-        println!("{:36}{unit:>5}{times}{share:>7}{shown}", row.name);
         let sizes = [row.calls, row.bases, row.copied, row.allocated].map(|size| size.to_string());
         let all = [port, rust, copy].map(|figure| [figure.best, figure.median]).concat();
         let times = [all, vec![alloc.best, plain.best, plain.median]].concat();
         let times: Vec<String> = times.iter().map(|time| format!("{time:.2}")).collect();
         let ratios = ratios.map(|ratio| format!("{ratio:.4}"));
-        let fields = [sizes.join("\t"), times.join("\t"), ratios.join("\t")].join("\t");
-        writeln!(self.table, "{}\t{fields}", row.name).expect("a String takes text");
-    }
-
-    /// Writes the figures to the file asked for, if one was.
-    pub fn finish(&self) -> std::io::Result<()> {
-        match &self.file {
-            Some(file) => std::fs::write(file, &self.table),
-            None => Ok(()),
-        }
+        println!("{}\t{}\t{}\t{}", row.name, sizes.join("\t"), times.join("\t"), ratios.join("\t"));
     }
 }
 
