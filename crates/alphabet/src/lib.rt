@@ -4,7 +4,7 @@ mod fold;
 mod guesser;
 mod kind;
 mod mask;
-mod members;
+mod membership;
 mod refusal;
 mod symbols;
 
@@ -21,7 +21,7 @@ pub use kind::Named;
 pub use kind::kind_of_number;
 pub use kind::later_alphabet;
 pub use mask::ALPHABET_ORDER;
-pub use members::takes;
+pub use membership::takes;
 pub use refusal::Refusal;
 pub use symbols::INVALID_CODE;
 pub use symbols::contains;

@@ -31,7 +31,8 @@ use Rattle.packing.specs.declared.encoder.Due.{Due}
 use Rattle.packing.specs.declared.encoder.Finalized.{Finalized}
 use Rattle.packing.specs.declared.sequence.Encoded.{Encoded}
 use Rattle.packing.specs.declared.range.Range.{Range}
-use Rattle.packing.specs.Encode.{digitOf, digitsOf, packing, firstFrom, badIn, badFrom, bothBad, unlessBad}
+use Rattle.packing.specs.Encode.{digitOf, digitsOf, packing, firstFrom, badFrom, bothBad, unlessBad}
+use Rattle.members.specs.Members.{badIn}
 use Rattle.packing.specs.Encode.{encodeBy, encodeAt, encodeWrites, encodeMemory, packsBy, freshEncoder, soundFirst, soundCount, soundBad, soundEncoder, startEncoderAt}
 use Rattle.packing.specs.Encode.{pieceBits, pieceBitCount, updated, updateAt, updateWrites, updateMemory}
 use Rattle.packing.specs.Encode.{finalizeRest, finalizeAt, finalizeWrites, finalizeMemory}
@@ -123,6 +124,13 @@ module _ (s : SequenceEncoder) where
   -- the pending bits are fewer than a byte
   pub few-bits : Sound s → s .bits < 8
   few-bits h = rw (h .left) (mod-lt (s .seen * packsBy s .width) (lit< tt))
+
+-- in a plain alphabet none do
+pub whole-bits : (s : SequenceEncoder) → soundEncoder s ≡ true → 8 ≤ packsBy s .width → s .bits ≡ 0
+whole-bits s e h =
+    let eight : packsBy s .width ≡ 8 = omega (arith, lawful (s .fold) (s .alphabet) .narrow) in
+    let none : s .seen * 8 % 8 ≡ 0 = omega arith in
+    sound s e .left ∙ ap (λ (b : ℕ). s .seen * b % 8) eight ∙ none
 
 -- ---- questions
 

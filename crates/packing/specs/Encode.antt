@@ -7,7 +7,6 @@ use mathlib.Core.Bool.{Bool, true, cond, not, _&&_}
 use mathlib.Core.List.{List, [], _∷_, map}
 use lib.Dec.{leb, ltb, eqb}
 use lib.ListN.{length}
-use Rattle.bits.specs.Counts.{howMany}
 use Rattle.bits.specs.Streams.{word, cut}
 use Rattle.bits.specs.Packing.{bytesFor, pack, atHand}
 use Rattle.bits.specs.Memory.{front}
@@ -15,6 +14,7 @@ use Rattle.alphabet.specs.declared.kind.AlphabetType.{AlphabetType}
 use Rattle.alphabet.specs.Questions.{ask_else_then_, by, inBounds}
 use Rattle.alphabet.specs.Symbols.{Coding, codingBy}
 use Rattle.alphabet.specs.Names.{known, kindOf, numberedBy}
+use Rattle.members.specs.Members.{badIn}
 use Rattle.packing.specs.declared.first.First.{First}
 use Rattle.packing.specs.declared.bad.Bad.{Bad}
 use Rattle.packing.specs.declared.encoder.SequenceEncoder.{SequenceEncoder}
@@ -36,21 +36,12 @@ digitsOf A text = map (digitOf A) text
 unfoldable pub packing : Coding → List ℕ → List ℕ
 packing A text = pack (A .width) (digitsOf A text)
 
--- the members before a text's first non-member: its place, and the text's length where there is none
-unfoldable pub membersAhead : Coding → List ℕ → ℕ
-membersAhead A [] = 0
-membersAhead A (x ∷ xs) = cond (A .member x) (suc (membersAhead A xs)) 0
-
 -- the first non-member of a text whose first byte has position i
 unfoldable pub firstFrom : Coding → ℕ → List ℕ → First
 firstFrom A i [] = First.Nothing
 firstFrom A i (x ∷ xs) = cond (A .member x) (firstFrom A (suc i) xs) (First.At i x)
 
--- how many of its bytes are no members
-abbrev pub badIn : Coding → List ℕ → ℕ
-badIn A text = howMany (λ v. not (A .member v)) text
-
--- both
+-- with it how many of its bytes are no members
 abbrev pub badFrom : Coding → ℕ → List ℕ → Bad
 badFrom A i text = record { first = firstFrom A i text; count = badIn A text }
 

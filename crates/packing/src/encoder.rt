@@ -5,14 +5,12 @@ use crate::bad::both_bad;
 use crate::first::First;
 use crate::run::left_over;
 use crate::run::pack;
-use crate::table::lay_codes;
+use crate::table::lay_digits;
+use crate::table::ones;
 use crate::words::pad;
 use alphabet::AlphabetType;
-use alphabet::INVALID_CODE;
 use alphabet::Named;
 use alphabet::Refusal;
-use alphabet::fold_entries;
-use alphabet::has_effect;
 use alphabet::kind_of_number;
 use alphabet::takes;
 use bits::LIMIT;
@@ -21,10 +19,9 @@ ghost use mathlib.Core.Path.{_≡_};
 ghost use mathlib.Core.Bool.{true};
 ghost use Prim.Native.Nat.{_+_, _≤_};
 ghost use lib.ListN.{length};
-ghost use Rattle.bits.specs.Tables.{tabulate};
 ghost use Rattle.alphabet.specs.Questions.{limit};
 ghost use Rattle.packing.specs.Encode.{packsBy, soundBad, soundEncoder, startEncoderAt, badFrom, updated, updateAt, updateMemory, finalizeAt, finalizeMemory};
-ghost use Rattle.packing.specs.Run.{entryOf, dueAt};
+ghost use Rattle.packing.specs.Run.{Tabled, dueAt};
 ghost use Rattle.alphabet.specs.Symbols.{codingBy};
 
 // The state between pieces: `seen` symbols so far, of which `bits` bits, of value `pending`, fill no byte yet; the non-members among them. Whether lowercase
@@ -146,7 +143,7 @@ impl SequenceEncoder {
     // The state after an accepted piece, whose non-members were found. A non-member counts as a symbol of b ones, and packing goes on; the first one's position and how
     // many there are, over all accepted pieces, are kept for `finalize`.
     fn next(self, table: &[u8; 256], piece: &[u8], found: Bad) -> SequenceEncoder
-        requires { ⌜ (now table ≡ tabulate 256 (entryOf (packsBy self)))
+        requires { ⌜ Tabled (packsBy self) (now table)
             × ((soundEncoder self ≡ true) × ((self .seen + length (now piece) ≤ limit) × (found ≡ badFrom (packsBy self) (self .seen) (now piece)))) ⌝ }
         ensures { λ r. ⌜ r ≡ updated self (now (piece .entry)) ⌝ }
     {
@@ -180,10 +177,10 @@ impl SequenceEncoder {
             Due::Refused(refusal) => Updated::Refused(refusal, self),
             Due::Bytes(count) => {
                 let kind = self.alphabet;
-                let mut entries = [INVALID_CODE; 256];
-                lay_codes(kind, &mut entries);
-                fold_entries(has_effect(self.fold, kind), &mut entries);
-                let found = bad_from(kind, self.fold, &entries, self.seen, piece);
+                let other = ones(kind);
+                let mut entries = [other; 256];
+                lay_digits(kind, self.fold, &mut entries);
+                let found = bad_from(kind, self.fold, self.seen, piece);
                 Updated::Wrote(count, self.next(&entries, piece, found))
             }
         }
@@ -196,20 +193,26 @@ impl SequenceEncoder {
         ensures memory { λ _. ⌜ now (out .exit) ≡ updateMemory self (now (piece .entry)) (now (out .entry)) ⌝ }
     {
         let kind = self.alphabet;
-        let mut table = [INVALID_CODE; 256];
-        lay_codes(kind, &mut table);
-        fold_entries(has_effect(self.fold, kind), &mut table);
+        let other = ones(kind);
+        let mut table = [other; 256];
+        lay_digits(kind, self.fold, &mut table);
         if !self.is_sound() {
             return Updated::Refused(Refusal::Unsound, self);
         }
         match self.due(piece.len(), out.len()) {
             Due::Refused(refusal) => Updated::Refused(refusal, self),
             Due::Bytes(count) => {
-                let found = bad_from(kind, self.fold, &table, self.seen, piece);
+                let found = bad_from(kind, self.fold, self.seen, piece);
                 let next = self.next(&table, piece, found);
-                let b = kind.bits_per_symbol();
-                let bits = self.bits as usize;
-                pack(&table, b, bits, self.pending as u64, piece, out);
+                pack(
+                    kind,
+                    self.fold,
+                    &table,
+                    self.seen,
+                    self.pending as u64,
+                    piece,
+                    out,
+                );
                 Updated::Wrote(count, next)
             }
         }

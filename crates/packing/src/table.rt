@@ -1,51 +1,32 @@
-// The encoding table of a call: for each of the 256 bytes its code, and FF where it is no member. In a packed alphabet the bit MARK is set beside a code.
+// A call's table: for each of the 256 bytes the b bits that it is packed as, its code or, where it is no member, ones. So a digit is added to others as it is, with no
+// mask. A plain alphabet needs no table.
 use alphabet::AlphabetType;
-use alphabet::FIRST_ENCODED;
-use alphabet::encoding_array;
+use alphabet::fold_entries;
+use alphabet::has_effect;
+use alphabet::lay_codes;
+use bits::power;
 ghost use mathlib.Core.Path.{_≡_};
-ghost use Prim.Native.Nat.{_≤_};
-ghost use lib.Bits.{bitOr};
-ghost use lib.ListN.{length, replicate};
-ghost use Rattle.bits.specs.Tables.{tabulate, at};
-ghost use Rattle.bits.specs.Memory.{putAt};
-ghost use Rattle.alphabet.specs.Symbols.{coding};
-ghost use Rattle.packing.specs.Run.{entryOf};
+ghost use Prim.Native.Nat.{_-_, _^_};
+ghost use lib.ListN.{replicate};
+ghost use Rattle.alphabet.specs.Symbols.{coding, codingBy};
+ghost use Rattle.packing.specs.Run.{Tabled};
 
-// So no entry is an alphabet's number, of which all are smaller. The compiler takes an entry that is, as T's code in Dna2bit would be, from the register that holds
-// the state's number; to pack such a base would be to wait for the state that the call before hands on, and a short piece would notice. A digit is cut to its b
-// bits, so that the mark costs nothing.
-const MARK: u8 = 0x40;
-
-// Each byte at its own place: Ascii's codes.
-fn lay_bytes(table: &mut [u8])
-    requires { ⌜ length (now table) ≡ 256 ⌝ }
-    ensures { λ _. ⌜ now (table .exit) ≡ tabulate 256 (λ v. v) ⌝ }
+// What a non-member is packed as.
+pub fn ones(kind: AlphabetType) -> u8
+    ensures { λ r. ⌜ r ≡ 2 ^ coding kind .width - 1 ⌝ }
 {
-    for v in 0..256usize {
-        table[v] = v as u8;
-    }
+    (power(kind.bits_per_symbol()) - 1) as u8
 }
 
-// The entries of the 64 bytes among which all symbols of a packed alphabet stand, from their codes; FF has the mark.
-fn lay_row(row: &[u8; 64], table: &mut [u8])
-    requires { ⌜ 0x60 ≤ length (now table) ⌝ }
-    ensures { λ _. ⌜ now (table .exit) ≡ putAt 0x20 (tabulate 64 (λ j. bitOr (at (now (row .entry)) j) 0x40)) (now (table .entry)) ⌝ }
-{
-    for j in 0..64usize {
-        table[FIRST_ENCODED + j] = row[j] | MARK;
-    }
-}
-
-// Gives a table that starts as 256 entries of FF an alphabet's entries. The caller makes the table, and it is written where it lies, in a packed alphabet 64 entries of
-// it: handed out by value it would be copied, which a short piece would notice.
-pub fn lay_codes(kind: AlphabetType, table: &mut [u8])
-    requires { ⌜ now table ≡ replicate 256 0xff ⌝ }
-    ensures { λ _. ⌜ now (table .exit) ≡ tabulate 256 (entryOf (coding kind)) ⌝ }
+// Gives a table that starts as ones the digits of an alphabet's members, by the choice to fold. The caller makes the table, and it is written where it lies: handed out
+// by value it would be copied, which a short piece would notice.
+pub fn lay_digits(kind: AlphabetType, fold: bool, table: &mut [u8; 256])
+    requires { ⌜ now table ≡ replicate 256 (2 ^ coding kind .width - 1) ⌝ }
+    ensures { λ _. ⌜ Tabled (codingBy fold kind) (now (table .exit)) ⌝ }
 {
     if 8 <= kind.bits_per_symbol() {
-        lay_bytes(table);
         return;
     }
-    let row = encoding_array(kind);
-    lay_row(&row, table);
+    lay_codes(kind, table);
+    fold_entries(has_effect(fold, kind), table);
 }

@@ -22,7 +22,8 @@ use Rattle.alphabet.proofs.Laws.{lawful}
 use Rattle.alphabet.proofs.Calls.{kind-number, known-number, guess-members}
 use Rattle.packing.specs.declared.first.First.{First}
 use Rattle.packing.specs.declared.sequence.Encoded.{Encoded}
-use Rattle.packing.specs.Encode.{packing, firstFrom, badIn, unlessBad, encodeAt, encodeWrites, encodeMemory}
+use Rattle.members.specs.Members.{badIn}
+use Rattle.packing.specs.Encode.{packing, firstFrom, unlessBad, encodeAt, encodeWrites, encodeMemory}
 use Rattle.packing.proofs.Search.{first-none}
 use Rattle.packing.proofs.Laid.{packing-length}
 use Rattle.lines.specs.Lines.{line, packedLines, refusedLine, putCount, putMemory}

@@ -16,7 +16,8 @@ use Rattle.alphabet.specs.Symbols.{Coding}
 use Rattle.alphabet.specs.Names.{known, numberedBy}
 use Rattle.packing.specs.declared.first.First.{First}
 use Rattle.packing.specs.declared.sequence.Encoded.{Encoded}
-use Rattle.packing.specs.Encode.{packing, firstFrom, badIn, unlessBad, encodeAt, encodeWrites, encodeMemory}
+use Rattle.members.specs.Members.{badIn}
+use Rattle.packing.specs.Encode.{packing, firstFrom, unlessBad, encodeAt, encodeWrites, encodeMemory}
 use Rattle.record.specs.Texts.{Members, Packed}
 use Rattle.record.proofs.Tallies.{length-packing}
 

@@ -14,7 +14,8 @@ use Rattle.alphabet.specs.Questions.{limit, inBounds, accepted}
 use Rattle.alphabet.specs.declared.kind.AlphabetType.{AlphabetType}
 use Rattle.alphabet.specs.Symbols.{Coding, codingBy}
 use Rattle.alphabet.specs.Names.{known, kindOf, numberedBy}
-use Rattle.packing.specs.Encode.{freshEncoder, encodeAt, encodeMemory, membersAhead}
+use Rattle.members.specs.Members.{membersAhead}
+use Rattle.packing.specs.Encode.{freshEncoder, encodeAt, encodeMemory}
 use Rattle.record.specs.Calls.{Call, update, finalize, isAccepted, acceptedText, finished}
 use Rattle.record.specs.Texts.{Members}
 use Rattle.record.specs.Runs.{run}

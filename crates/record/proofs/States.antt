@@ -20,7 +20,8 @@ use Rattle.alphabet.specs.Symbols.{Coding, codingBy}
 use Rattle.alphabet.proofs.Laws.{lawful}
 use Rattle.packing.specs.declared.first.First.{First}
 use Rattle.packing.specs.declared.encoder.SequenceEncoder.{SequenceEncoder}
-use Rattle.packing.specs.Encode.{digitOf, digitsOf, firstFrom, badIn, badFrom, orFirst, bothBad, soundFirst, soundCount, soundBad, soundEncoder}
+use Rattle.members.specs.Members.{badIn}
+use Rattle.packing.specs.Encode.{digitOf, digitsOf, firstFrom, badFrom, orFirst, bothBad, soundFirst, soundCount, soundBad, soundEncoder}
 use Rattle.packing.specs.Encode.{freshEncoder, pieceBits, pieceBitCount, updated}
 use Rattle.packing.proofs.Ends.{sound-rest}
 

@@ -21,7 +21,8 @@ use Rattle.packing.specs.declared.encoder.SequenceEncoder.{SequenceEncoder}
 use Rattle.packing.specs.declared.encoder.Updated.{Updated}
 use Rattle.packing.specs.declared.encoder.Finalized.{Finalized}
 use Rattle.packing.specs.Answers.{updatedReply, finalizedReply}
-use Rattle.packing.specs.Encode.{digitOf, packing, firstFrom, badIn, unlessBad, freshEncoder, pieceBits, pieceBitCount, membersAhead}
+use Rattle.members.specs.Members.{badIn, membersAhead}
+use Rattle.packing.specs.Encode.{digitOf, packing, firstFrom, unlessBad, freshEncoder, pieceBits, pieceBitCount}
 use Rattle.packing.specs.Encode.{updateAt, updateWrites, updateMemory, finalizeAt, finalizeWrites, finalizeMemory}
 use Rattle.packing.proofs.Search.{first-ahead}
 use Rattle.record.specs.Calls.{Call, update, finalize, Outcome, isAccepted}

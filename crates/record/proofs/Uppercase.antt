@@ -12,7 +12,8 @@ use Rattle.alphabet.specs.declared.kind.AlphabetType.{AlphabetType}
 use Rattle.alphabet.specs.Symbols.{Coding, coding, upper, canon, folded, folds, through, codingBy}
 use Rattle.alphabet.specs.Names.{kindOf, numbered, numberedBy}
 use Rattle.alphabet.proofs.Laws.{taken, text-stands, length-folded, at-folded, folded-append}
-use Rattle.packing.specs.Encode.{packing, membersAhead}
+use Rattle.members.specs.Members.{membersAhead}
+use Rattle.packing.specs.Encode.{packing}
 use Rattle.packing.proofs.Laid.{packing-folded}
 use Rattle.record.specs.Tally.{textPacked}
 use Rattle.record.specs.Texts.{Members, Extends}

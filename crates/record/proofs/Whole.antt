@@ -19,7 +19,8 @@ use Rattle.alphabet.specs.Questions.{ask_else_then_, limit, inBounds, accepted,
 use Rattle.alphabet.specs.Symbols.{Coding, codingBy}
 use Rattle.alphabet.specs.Names.{known, kindOf, numberedBy}
 use Rattle.alphabet.proofs.Laws.{lawful}
-use Rattle.packing.specs.Encode.{digitOf, digitsOf, packing, freshEncoder, badIn, membersAhead}
+use Rattle.members.specs.Members.{badIn, membersAhead}
+use Rattle.packing.specs.Encode.{digitOf, digitsOf, packing, freshEncoder}
 use Rattle.record.specs.Calls.{Call, update, finalize, Outcome, isAccepted, written, acceptedText, finished}
 use Rattle.record.specs.Tally.{textPacked, bytesFilled, Turn, stay, completes, updateTurn, finalizeTurn, tally}
 use Rattle.record.specs.Runs.{run}

@@ -1,87 +1,142 @@
-use mathlib.Core.Path.{_≡_}
+use mathlib.Core.Path.{_≡_, sym, ap, _∙_, subst}
 use mathlib.Core.List.{List}
-use Prim.Native.Nat.{ℕ}
+use Prim.Native.Nat.{ℕ, _+_, _-_, _*_, _≤_}
+use native.Mathlib.Omega.{arith}
 use borrow.Author.Needs.{needs}
-use Rattle.packing.specs.Run.{looked}
-use Rattle.packing.proofs.Blocks.{five, ready-at, ran-at}
+use borrow.Rule.Slice.PartMut.{same-len-mid}
+use lib.ListN.{length}
+use Rattle.bits.specs.Tables.{Bytes}
+use Rattle.bits.specs.Streams.{word}
+use Rattle.bits.specs.Packing.{atHand}
+use Rattle.alphabet.specs.Symbols.{Coding, codingBy}
+use Rattle.packing.specs.Encode.{digitOf, digitsOf}
+use Rattle.packing.specs.Run.{Ready, Narrow, Digits, ran, looked}
+use Rattle.packing.proofs.Behind.{part, room, ready-behind, ran-head, ran-behind, nothing-held}
+use Rattle.packing.proofs.Digits.{digits-small, looked-part}
+use Rattle.packing.proofs.Even.{two-to-five}
 use Rattle.packing.proofs.run.pack_even.Statement.{statement}
 use Rattle.packing.proofs.run.pack_even.Tie as tie
 
-abbrev start : tie.After-slice-known → tie.Start
-start c = c .before .before
+-- where the width is told, and the entry
+abbrev start : tie.After-bits-per-symbol → tie.Start
+start w = w .before .before .before
 
-abbrev digits : tie.Start → List ℕ
-digits s = looked (s .args .table .now) (s .args .text .now)
+-- where fours are packed, and before that the width
+abbrev width : tie.After-fours-of → tie.After-bits-per-symbol
+width k = k .before .before
 
--- the width that no other arm has
-last : (m : tie.At-match-rest) → start (m .before) .args .b ≡ 5
-last m = five (start (m .before) .pre .1 .0) (m .match .rest .0 .0 .1) (m .match .rest .0 .1) (m .match .rest .1)
+abbrev entry : tie.After-fours-of → tie.Start
+entry k = start (width k)
 
-pack-blocks-requires : tie.Need-pack-blocks-requires
-pack-blocks-requires c κs = ready-at (c .before .match .keys1) (start (c .before .before) .pre)
+abbrev codingOf : tie.After-fours-of → Coding
+codingOf k = codingBy (entry k .args .fold) (entry k .args .kind)
 
-pack-blocks-requires-2 : tie.Need-pack-blocks-requires-2
-pack-blocks-requires-2 c κs = ready-at (c .before .match .keys2) (start (c .before .before) .pre)
+abbrev count : tie.After-fours-of → ℕ
+count k = k .fours-of .result
 
-pack-blocks-requires-3 : tie.Need-pack-blocks-requires-3
-pack-blocks-requires-3 c κs = ready-at (c .before .match .keys3) (start (c .before .before) .pre)
+abbrev out : tie.After-fours-of → List ℕ
+out k = k .fours-of .last .1 .1 .1 .0
 
-pack-blocks-requires-4 : tie.Need-pack-blocks-requires-4
-pack-blocks-requires-4 c κs = ready-at (last (c .before)) (start (c .before .before) .pre)
+bytes : (k : tie.After-fours-of) → Bytes (entry k .args .text .now)
+bytes k i = width k .before .before .shared-slice-known .given i .fits
+
+place : (k : tie.After-fours-of) → 0 + count k * 64 * codingOf k .width ≡ count k * 16 * 8 + 0
+place k = omega (arith, k .fours-of .ensures .1 .0)
+
+-- no bits pend
+held : (k : tie.After-fours-of) → 0 ≡ word (atHand 0 0 (codingOf k .width) (digitsOf (codingOf k) (entry k .args .text .now))) (count k * 16 * 8) 0
+held k = nothing-held (atHand 0 0 (codingOf k .width) (digitsOf (codingOf k) (entry k .args .text .now))) (count k * 16 * 8)
+
+-- the bytes of the fours are within the memory
+fits : (k : tie.After-fours-of) → count k * 16 ≤ length (entry k .args .out .now)
+fits k =
+    let a = entry k .args in
+    room (codingOf k .width) 0 0 (digitOf (codingOf k)) (a .text .now) (a .out .now) (entry k .pre .0) (count k * 64) (count k * 16) 0 0 (k .fours-of .ensures .0) (omega arith)
+    (place k) (held k)
+
+bits-per-symbol-requires : tie.Need-bits-per-symbol-requires
+bits-per-symbol-requires c κs = search needs
+
+fours-of-requires : tie.Need-fours-of-requires
+fours-of-requires c κs = search needs
+
+mul-i : tie.Need-mul-i
+mul-i c = search needs
+
+mul-w : tie.Need-mul-w
+mul-w c = search needs
+
+sub-pack-table : tie.Need-sub-pack-table
+sub-pack-table c = search needs
+
+part-pack-table-start : tie.Need-part-pack-table-start
+part-pack-table-start c = search needs
+
+part-pack-table-end : tie.Need-part-pack-table-end
+part-pack-table-end c = search needs
+
+-- where the rest is to be packed
+abbrev run : tie.After-pack-table-arg → tie.After-fours-of
+run c = c .before .before .before
+
+sub-pack-table-2 : tie.Need-sub-pack-table-2
+sub-pack-table-2 c = let k = run c in omega (arith, fits k, k .fours-of .kept .1 .1 .1 .0)
+
+part-pack-table-start-2 : tie.Need-part-pack-table-start-2
+part-pack-table-start-2 c = let k = run c in omega (arith, fits k, k .fours-of .kept .1 .1 .1 .0)
+
+part-pack-table-end-2 : tie.Need-part-pack-table-end-2
+part-pack-table-end-2 c = search needs
+
+pack-table-requires : tie.Need-pack-table-requires
+pack-table-requires c κs =
+    let k = run (c .before) in
+    let s = entry k in
+    let a = s .args in
+    let ready = ready-behind (codingOf k .width) 0 0 (digitOf (codingOf k)) (a .text .now) (a .out .now) (s .pre .0) (count k * 64) (count k * 16) 0 0 (k .fours-of .ensures .0)
+    (omega arith) (place k) (held k) (out k) (k .fours-of .kept .1 .1 .1 .0) in
+    let small = digits-small (a .fold) (a .kind) (a .table .now) (s .pre .1 .1) in
+    subst (λ (b : ℕ). Ready b 0 0 (length (part (a .text .now) (count k * 64))) (length (part (out k) (count k * 16))) × (Narrow b × Digits b (a .table .now)))
+    (sym (width k .bits-per-symbol .ensures)) (ready, (two-to-five (a .fold) (a .kind) (s .pre .1 .0), small))
 
 same-length : tie.Need-same-length
-same-length c = search needs
+same-length c =
+    let k = run (c .before .before .before .before) in
+    let w = count k * 16 in
+    let r = c .before .before .pack-table in
+    same-len-mid w (length (out k) - w) (out k) (r .last .1 .1 .1 .0) (r .kept .1 .1 .1 .0) ∙ k .fours-of .kept .1 .1 .1 .0
 
 returns : tie.Need-returns
 returns c =
-    let k = c .before .before in
-    let m = k .before .before in
-    let s = start (m .before) in
-    ran-at 0 0 (digits s) (s .args .out .now) (m .match .keys1) (k .pack-blocks .ensures)
-
-same-length-2 : tie.Need-same-length-2
-same-length-2 c = search needs
-
-returns-2 : tie.Need-returns-2
-returns-2 c =
-    let k = c .before .before in
-    let m = k .before .before in
-    let s = start (m .before) in
-    ran-at 0 0 (digits s) (s .args .out .now) (m .match .keys2) (k .pack-blocks2 .ensures)
-
-same-length-3 : tie.Need-same-length-3
-same-length-3 c = search needs
-
-returns-3 : tie.Need-returns-3
-returns-3 c =
-    let k = c .before .before in
-    let m = k .before .before in
-    let s = start (m .before) in
-    ran-at 0 0 (digits s) (s .args .out .now) (m .match .keys3) (k .pack-blocks3 .ensures)
-
-same-length-4 : tie.Need-same-length-4
-same-length-4 c = search needs
-
-returns-4 : tie.Need-returns-4
-returns-4 c =
-    let k = c .before .before in
-    let m = k .before .before in
-    let s = start (m .before) in
-    ran-at 0 0 (digits s) (s .args .out .now) (last m) (k .pack-blocks4 .ensures)
+    let k = run (c .before .before .before .before) in
+    let s = entry k in
+    let a = s .args in
+    let g = digitOf (codingOf k) in
+    let r = c .before .before .pack-table in
+    let rest = part (a .text .now) (count k * 64) in
+    let tail = r .ensures
+    ∙ ap (λ (b : ℕ). ran b 0 0 (looked (a .table .now) rest) (part (out k) (count k * 16))) (width k .bits-per-symbol .ensures)
+    ∙ ap (λ (d : List ℕ). ran (codingOf k .width) 0 0 d (part (out k) (count k * 16)))
+    (looked-part (a .fold) (a .kind) (a .table .now) (s .pre .1 .1) (a .text .now) (bytes k) (count k * 64) (length (a .text .now) - count k * 64)) in
+    let first = k .fours-of .ensures .1 .1
+    ∙ ran-head (codingOf k .width) 0 0 g (a .text .now) (a .out .now) (s .pre .0) (count k * 64) (count k * 16) 0 0 (k .fours-of .ensures .0) (omega arith) (place k) (held k) in
+    ran-behind (codingOf k .width) 0 0 g (a .text .now) (a .out .now) (s .pre .0) (count k * 64) (count k * 16) 0 0 (k .fours-of .ensures .0) (omega arith) (place k) (held k)
+    (out k) (r .last .1 .1 .1 .0) first tail
 
 pub pack-even-spec : {M : Type 1} → statement M
 pack-even-spec =
     tie.close
     (tie.spec
-    pack-blocks-requires
-    pack-blocks-requires-2
-    pack-blocks-requires-3
-    pack-blocks-requires-4
+    bits-per-symbol-requires
+    fours-of-requires
+    mul-i
+    mul-w
+    sub-pack-table
+    part-pack-table-start
+    part-pack-table-end
+    sub-pack-table-2
+    part-pack-table-start-2
+    part-pack-table-end-2
+    pack-table-requires
     same-length
-    returns
-    same-length-2
-    returns-2
-    same-length-3
-    returns-3
-    same-length-4
-    returns-4)
+    returns)

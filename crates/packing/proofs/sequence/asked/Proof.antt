@@ -10,11 +10,12 @@ use Rattle.bits.specs.Packing.{bytesFor}
 use Rattle.alphabet.specs.Questions.{limit, by}
 use Rattle.alphabet.specs.Symbols.{Coding, codingBy}
 use Rattle.alphabet.proofs.Laws.{lawful}
+use Rattle.members.proofs.Laws.{bad-part}
 use Rattle.packing.specs.declared.first.First.{First}
 use Rattle.packing.specs.declared.bad.Bad.{Bad}
 use Rattle.packing.specs.declared.sequence.Encoded.{Encoded}
 use Rattle.packing.specs.declared.sequence.Encoded.the-variants.{Wrote}
-use Rattle.packing.proofs.Search.{first-there, bad-there, none-there}
+use Rattle.packing.proofs.Search.{first-there, none-there}
 use Rattle.packing.proofs.Ends.{product-le, encode-long, encode-short, encode-first}
 use Rattle.packing.proofs.sequence.asked.Statement.{statement}
 use Rattle.packing.proofs.sequence.asked.Tie as tie
@@ -43,11 +44,11 @@ fits c =
     subst (λ (b : ℕ). bytesFor (length (a .text .now) * b) ≤ a .room) (c .before .bits-per-symbol .ensures) (c .if2 .left)
 
 -- where the first non-member is searched for
-abbrev room : tie.After-find-bad → tie.Else2
+abbrev room : tie.After-members-ahead → tie.Else2
 room f = f .before
 
 -- where one is found, and where all are counted
-abbrev counted : tie.After-count-bad → tie.Then3
+abbrev counted : tie.After-count-strangers → tie.Then3
 counted c = c .before .before .before
 
 returns : tie.Need-returns
@@ -71,23 +72,23 @@ returns-2 c =
     let short = subst (λ (b : ℕ). a .room < bytesFor (length (a .text .now) * b)) (w .bits-per-symbol .ensures) (c .if2 .taken) in
     encode-short (codingOf (w .before)) (a .text .now) (a .room) (w .before .if1 .left) short
 
-find-bad-requires : tie.Need-find-bad-requires
-find-bad-requires c κs = start (near c) .pre
+members-ahead-requires : tie.Need-members-ahead-requires
+members-ahead-requires c κs = search needs
 
-shared-slice-read-t16 : tie.Need-shared-slice-read-t16
-shared-slice-read-t16 c = search needs
+shared-slice-read-t15 : tie.Need-shared-slice-read-t15
+shared-slice-read-t15 c = search needs
 
-sub-count-bad : tie.Need-sub-count-bad
-sub-count-bad c = search needs
+sub-count-strangers : tie.Need-sub-count-strangers
+sub-count-strangers c = search needs
 
-part-count-bad-start : tie.Need-part-count-bad-start
-part-count-bad-start c = search needs
+part-count-strangers-start : tie.Need-part-count-strangers-start
+part-count-strangers-start c = search needs
 
-part-count-bad-end : tie.Need-part-count-bad-end
-part-count-bad-end c = search needs
+part-count-strangers-end : tie.Need-part-count-strangers-end
+part-count-strangers-end c = search needs
 
-count-bad-requires : tie.Need-count-bad-requires
-count-bad-requires c κs = start (near (room (c .before .before .before))) .pre
+count-strangers-requires : tie.Need-count-strangers-requires
+count-strangers-requires c κs = search needs
 
 returns-3 : tie.Need-returns-3
 returns-3 c =
@@ -95,11 +96,11 @@ returns-3 c =
     let f = t .before in
     let e = room f in
     let a = start (near e) .args in
-    let i : ℕ = f .find-bad .result in
+    let i : ℕ = f .members-ahead .result in
     let byte : ℕ = at (a .text .now) i in
-    let first = first-there (codingOf (near e)) (a .text .now) i (f .find-bad .ensures) (t .if3 .taken) 0 in
-    let count = bad-there (codingOf (near e)) (a .text .now) i (f .find-bad .ensures) (omega (arith, t .if3 .taken)) in
-    ap₂ (λ (m n : ℕ). Encoded.Refused (by 5 (m ∷ byte ∷ n ∷ []))) (sym (zero-add i)) (c .count-bad .ensures ∙ count)
+    let first = first-there (codingOf (near e)) (a .text .now) i (f .members-ahead .ensures) (t .if3 .taken) 0 in
+    let count = bad-part (codingOf (near e)) (a .text .now) i (f .members-ahead .ensures) in
+    ap₂ (λ (m n : ℕ). Encoded.Refused (by 5 (m ∷ byte ∷ n ∷ []))) (sym (zero-add i)) (c .count-strangers .ensures ∙ count)
     ∙ encode-first (codingOf (near e)) (a .text .now) (a .room) (near e .if1 .left) (fits e) _ first
 
 returns-4 : tie.Need-returns-4
@@ -107,7 +108,7 @@ returns-4 c =
     let f = c .before in
     let e = room f in
     let a = start (near e) .args in
-    let none = none-there (codingOf (near e)) (a .text .now) (f .find-bad .result) (f .find-bad .ensures) (c .if3 .left) 0 in
+    let none = none-there (codingOf (near e)) (a .text .now) (f .members-ahead .result) (f .members-ahead .ensures) (c .if3 .left) 0 in
     ap Wrote (ap (λ (b : ℕ). bytesFor (length (a .text .now) * b)) (e .before .bits-per-symbol .ensures))
     ∙ encode-first (codingOf (near e)) (a .text .now) (a .room) (near e .if1 .left) (fits e) First.Nothing (sym (ap (λ (b : Bad). b .first) none))
 
@@ -120,11 +121,11 @@ asked-spec =
     mul-count
     add-count
     returns-2
-    find-bad-requires
-    shared-slice-read-t16
-    sub-count-bad
-    part-count-bad-start
-    part-count-bad-end
-    count-bad-requires
+    members-ahead-requires
+    shared-slice-read-t15
+    sub-count-strangers
+    part-count-strangers-start
+    part-count-strangers-end
+    count-strangers-requires
     returns-3
     returns-4)

@@ -3,14 +3,11 @@ use mathlib.Core.Bool.{true}
 use Prim.Native.Nat.{ℕ, _+_, _≤_}
 use borrow.Author.Tests.{not-true, not-false}
 use borrow.Author.Needs.{needs}
-use lib.ListN.{length}
-use Rattle.bits.specs.Tables.{tabulate}
+use lib.ListN.{length, replicate}
 use Rattle.alphabet.specs.Questions.{limit}
 use Rattle.packing.specs.declared.encoder.SequenceEncoder.{SequenceEncoder}
 use Rattle.packing.specs.declared.encoder.Updated.the-variants.{Wrote}
-use Rattle.packing.specs.Encode.{packsBy, soundEncoder, updated, updateAt}
-use Rattle.packing.specs.Run.{entryOf}
-use Rattle.packing.proofs.Entries.{entries-folded}
+use Rattle.packing.specs.Encode.{soundEncoder, updated, updateAt}
 use Rattle.packing.proofs.Ends.{update-unsound, update-refused, update-fine, update-accepted}
 use Rattle.packing.proofs.encoder.SequenceEncoder.ask.Statement.{statement}
 use Rattle.packing.proofs.encoder.SequenceEncoder.ask.Tie as tie
@@ -41,30 +38,16 @@ bounded t =
     let a = asked (judged t) .args in
     update-accepted (a .self) (a .piece .now) (a .room) _ _ (sym (accepted t)) .bounded
 
--- where the table is folded, and before that the question whether it is to be, and the alphabet's table
-abbrev effect : tie.After-fold-entries → tie.After-has-effect
-effect f = f .before .before
+-- where the table is laid out
+abbrev told : tie.After-lay-digits → tie.After-count
+told l = l .before .before .before .before
 
-abbrev listed : tie.After-fold-entries → tie.After-lay-codes
-listed f = effect f .before .before
-
-abbrev told : tie.After-fold-entries → tie.After-count
-told f = listed f .before .before .before
-
-abbrev entry : tie.After-fold-entries → tie.Start
-entry f = asked (judged (told f))
-
--- the table is the state's
-codes : (f : tie.After-fold-entries) → f .fold-entries .last .1 .0 ≡ tabulate 256 (entryOf (packsBy (entry f .args .self)))
-codes f =
-    let s = entry f .args .self in
-    let e = effect f .has-effect in
-    let l = listed f .lay-codes in
-    entries-folded (s .fold) (e .result) (s .alphabet) (l .last .1 .0) (l .ensures) (e .ensures) (f .fold-entries .ensures)
+abbrev entry : tie.After-lay-digits → tie.Start
+entry l = asked (judged (told l))
 
 -- where its non-members are found
-abbrev table : tie.After-bad-from → tie.After-fold-entries
-table b = b .before .before .before
+abbrev table : tie.After-bad-from → tie.After-lay-digits
+table b = b .before
 
 is-sound-requires : tie.Need-is-sound-requires
 is-sound-requires c κs = search needs
@@ -83,29 +66,20 @@ enum-known-refusal c = search needs
 enum-known-count : tie.Need-enum-known-count
 enum-known-count c = search needs
 
-slice-aggregate-lay-codes : tie.Need-slice-aggregate-lay-codes
-slice-aggregate-lay-codes c = search needs
+ones-requires : tie.Need-ones-requires
+ones-requires c κs = search needs
 
-lay-codes-requires : tie.Need-lay-codes-requires
-lay-codes-requires c κs = search needs
-
-has-effect-requires : tie.Need-has-effect-requires
-has-effect-requires c κs = search needs
-
-slice-aggregate-fold-entries : tie.Need-slice-aggregate-fold-entries
-slice-aggregate-fold-entries c = search needs
-
-fold-entries-requires : tie.Need-fold-entries-requires
-fold-entries-requires c κs = search needs
+lay-digits-requires : tie.Need-lay-digits-requires
+lay-digits-requires c κs = ap (λ (x : ℕ). replicate 256 x) (c .before .ones .ensures)
 
 bad-from-requires : tie.Need-bad-from-requires
-bad-from-requires c κs = let f = c .before .before in (codes f, bounded (told f))
+bad-from-requires c κs = bounded (told c)
 
 next-requires : tie.Need-next-requires
 next-requires c κs =
     let b = c .before in
-    let f = table b in
-    (codes f, (sure (judged (told f) .before), (bounded (told f), b .bad-from .ensures)))
+    let l = table b in
+    (l .lay-digits .ensures, (sure (judged (told l) .before), (bounded (told l), b .bad-from .ensures)))
 
 returns-2 : tie.Need-returns-2
 returns-2 c =
@@ -128,11 +102,8 @@ ask-spec =
     due-requires
     enum-known-refusal
     enum-known-count
-    slice-aggregate-lay-codes
-    lay-codes-requires
-    has-effect-requires
-    slice-aggregate-fold-entries
-    fold-entries-requires
+    ones-requires
+    lay-digits-requires
     bad-from-requires
     next-requires
     returns-2

@@ -10,7 +10,7 @@ use Rattle.packing.specs.declared.bad.Bad.{Bad}
 use Rattle.packing.specs.Encode.{bothBad, packsBy}
 use Rattle.packing.specs.Run.{Pends, leftOver, looked}
 use Rattle.packing.proofs.Digits.{left-digits}
-use Rattle.packing.proofs.Ends.{product-le, sound, few-bad, pends, next-state}
+use Rattle.packing.proofs.Ends.{product-le, sound, few-bad, pends, next-state, whole-bits}
 use Rattle.packing.proofs.encoder.SequenceEncoder.next.Statement.{statement}
 use Rattle.packing.proofs.encoder.SequenceEncoder.next.Tie as tie
 
@@ -80,7 +80,7 @@ returns c =
     let bytes : (i : ℕ) → _ = λ i. w .before .shared-slice-known .given i .fits in
     let pending = over .ensures
     ∙ ap (λ (b : ℕ). leftOver b (a .self .bits) (a .self .pending) (looked (a .table .now) (a .piece .now))) e
-    ∙ left-digits (a .self .fold) (a .self .alphabet) (a .table .now) (a .piece .now) (s .pre .0) bytes (a .self .bits) (a .self .pending) in
+    ∙ left-digits (a .self .fold) (a .self .alphabet) (a .table .now) (a .piece .now) (s .pre .0) bytes (a .self .bits) (a .self .pending) (whole-bits (a .self) (s .pre .1 .0)) in
     next-state (a .self) (a .piece .now) _ (over .result) (c .both-bad .result) (ap (λ (b : ℕ). (a .self .bits + n * b) % 8) e) pending
     (c .both-bad .ensures ∙ ap (bothBad (a .self .bad)) (s .pre .1 .1 .1))
 

@@ -1,0 +1,69 @@
+use mathlib.Core.Path.{_≡_, sym, ap, _∙_, subst}
+use mathlib.Core.List.{List}
+use Prim.Native.Nat.{ℕ, _+_, _*_, _/_, _≤_}
+use native.Mathlib.Nat.{mul-assoc, zero-mul}
+use native.Mathlib.Omega.{arith}
+use borrow.Author.Needs.{needs}
+use lib.ListN.{length, take}
+use Rattle.alphabet.specs.declared.kind.AlphabetType.{AlphabetType}
+use Rattle.alphabet.specs.declared.kind.AlphabetType.the-variants.{Dna2bit}
+use Rattle.alphabet.specs.Symbols.{codingBy}
+use Rattle.alphabet.proofs.Laws.{widths}
+use Rattle.packing.specs.Encode.{digitsOf}
+use Rattle.packing.specs.Run.{ran}
+use Rattle.packing.proofs.Even.{no-fours}
+use Rattle.packing.proofs.run.fours_of.Statement.{statement}
+use Rattle.packing.proofs.run.fours_of.Tie as tie
+
+-- where the alphabet is told, and the entry
+abbrev start : tie.After-enum-told → tie.Start
+start t = t .before .before .before .before
+
+-- what is told of an alphabet
+abbrev Told : tie.Start → AlphabetType → ℕ → List ℕ → Type 0
+Told s k r out =
+    (r * 64 ≤ length (s .args .text .now)) × ((r * 64 * codingBy (s .args .fold) k .width ≡ r * 16 * 8)
+    × (out ≡ ran (codingBy (s .args .fold) k .width) 0 0 (digitsOf (codingBy (s .args .fold) k) (take (r * 64) (s .args .text .now))) (s .args .out .now)))
+
+enum-told : tie.Need-enum-told
+enum-told c = search needs
+
+pack-fours-requires : tie.Need-pack-fours-requires
+pack-fours-requires c κs =
+    let t = c .before in
+    let s = start t in
+    let two = ap (λ (k : AlphabetType). codingBy (s .args .fold) k .width) (t .enum-told .given .1) ∙ widths .of-dna2bit in
+    let fits = subst (λ (b : ℕ). length (s .args .text .now) * b / 8 ≤ length (s .args .out .now)) two (s .pre) in
+    omega (arith, fits)
+
+same-length : tie.Need-same-length
+same-length c = search needs
+
+returns : tie.Need-returns
+returns c =
+    let k = c .before .before in
+    let t = k .before .before in
+    let s = start t in
+    let r : ℕ = k .pack-fours .result in
+    let out : List ℕ = k .pack-fours .last .1 .1 .0 in
+    let e = k .pack-fours .ensures in
+    let two : codingBy (s .args .fold) Dna2bit .width ≡ 2 = widths .of-dna2bit in
+    let bits : r * 64 * codingBy (s .args .fold) Dna2bit .width ≡ r * 16 * 8 = ap (λ (b : ℕ). r * 64 * b) two ∙ (let z : r * 64 * 2 ≡ r * 16 * 8 = omega arith in z) in
+    let wrote = e .1 ∙ ap (λ (b : ℕ). ran b 0 0 (digitsOf (codingBy (s .args .fold) Dna2bit) (take (r * 64) (s .args .text .now))) (s .args .out .now)) (sym two) in
+    subst (λ (x : AlphabetType). Told s x r out) (sym (t .enum-told .given .1)) (omega (arith, e .0), (bits, wrote))
+
+returns-2 : tie.Need-returns-2
+returns-2 c =
+    let s = c .before .before .before in
+    let a = s .args in
+    (omega arith, (zero-mul (codingBy (a .fold) (a .kind) .width), no-fours (codingBy (a .fold) (a .kind)) (a .text .now) (a .out .now)))
+
+pub fours-of-spec : {M : Type 1} → statement M
+fours-of-spec =
+    tie.close
+    (tie.spec
+    enum-told
+    pack-fours-requires
+    same-length
+    returns
+    returns-2)
