@@ -1,5 +1,5 @@
--- The members of an alphabet in a text. States for document 01, "Middle: packing", question 10, which byte of a text is its first non-member, and for request A5
--- how many non-members it has. A text is looked at as it came: the choice to fold is in the coding.
+-- The members of an alphabet in a text. States for document 01, questions 8 and 10, which byte of a text is its first non-member, and for request A5 how many
+-- non-members it has. A text is looked at as it came: the choice to fold is in the coding.
 use Prim.Native.Nat.{ℕ, suc, _+_, _<_, _≤_}
 use mathlib.Core.Path.{_≡_}
 use mathlib.Core.Bool.{true, cond, not}

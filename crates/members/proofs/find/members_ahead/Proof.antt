@@ -54,7 +54,8 @@ loop-again : tie.Need-loop-again Inv-loop μ-loop
 loop-again c =
     let t = c .before in
     let h = t .before .before .before in
-    (refl, passed-one (coding h) (given h) (h .loop .i) (h .loop .inv .1) (t .before .before .loop-test .taken) (sym (t .takes .ensures) ∙ not-false (t .takes .result) (c .if1 .left)))
+    let member = sym (t .takes .ensures) ∙ not-false (t .takes .result) (c .if1 .left) in
+    (refl, passed-one (coding h) (given h) (h .loop .i) (h .loop .inv .1) (t .before .before .loop-test .taken) member)
 
 returns-2 : tie.Need-returns-2 Inv-loop μ-loop
 returns-2 c =
