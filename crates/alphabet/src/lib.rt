@@ -8,7 +8,6 @@ mod membership;
 mod refusal;
 mod symbols;
 
-pub use bases::pass_bases;
 pub use fold::fold_entries;
 pub use fold::has_effect;
 pub use guesser::AlphabetGuesser;
