@@ -8,6 +8,7 @@ mod membership;
 mod refusal;
 mod symbols;
 
+pub use bases::telling_bits;
 pub use fold::fold_entries;
 pub use fold::has_effect;
 pub use guesser::AlphabetGuesser;

@@ -35,6 +35,16 @@ module _ (A : Coding) (text : List ℕ) where
           let same : i + (j - i) ≡ j = omega arith in
           sym (ap (λ (x : ℕ). A .member (at text x)) same) ∙ more .each (j - i) (omega arith)
 
+  -- the last n, of which some may be passed already
+  pub passed-end : (i from n : ℕ) → Passed A text i → from ≤ i → from + n ≡ length text → Members A text from n → Passed A text (length text)
+  passed-end i from n p h all more = record { within = omega arith; members = λ j l. go j l (decLt j i) }
+    where
+      go : (j : ℕ) → j < length text → Dec (j < i) → A .member (at text j) ≡ true
+      go j l (yes k) = p .members j k
+      go j l (no k) =
+          let same : from + (j - from) ≡ j = omega arith in
+          sym (ap (λ (x : ℕ). A .member (at text x)) same) ∙ more .each (j - from) (omega arith)
+
   pub passed-one : (i : ℕ) → Passed A text i → i < length text → A .member (at text i) ≡ true → Passed A text (i + 1)
   passed-one i p h e = record { within = omega arith; members = below-more (λ j. A .member (at text j) ≡ true) i (p .members) e }
 

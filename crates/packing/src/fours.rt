@@ -1,5 +1,6 @@
 // Dna2bit: four bases to a byte, by arithmetic. There is no table and no branch by a byte's value, so that the compiler packs many bases at once, and non-members
 // cost as much as members.
+use alphabet::telling_bits;
 ghost use mathlib.Core.Path.{_≡_};
 ghost use mathlib.Core.Bool.{cond, _||_};
 ghost use Prim.Native.Nat.{ℕ, _+_, _-_, _*_, _/_, _%_, _^_, _≤_, _<_};
@@ -13,16 +14,6 @@ ghost use Rattle.alphabet.specs.Symbols.{codingBy};
 ghost use Rattle.alphabet.specs.declared.kind.AlphabetType.the-variants.{Dna2bit};
 ghost use Rattle.packing.specs.Encode.{digitOf, digitsOf};
 ghost use Rattle.packing.specs.Run.{ran};
-
-// The bits of a byte that tell a base: with folding all but the one in which a lowercase letter differs from its uppercase letter.
-fn telling_bits(fold: bool) -> u8
-    ensures { λ r. ⌜ r ≡ cond fold 0xdf 0xff ⌝ }
-{
-    if fold {
-        return 0xDF;
-    }
-    0xFF
-}
 
 // A base as it is, and G, whose code is all ones, for any other byte. A and C differ in one bit, so that one comparison tells both.
 fn tame(x: u8) -> u8

@@ -11,26 +11,39 @@ use Rattle.members.proofs.find.members_ahead.Statement.{statement}
 use Rattle.members.proofs.find.members_ahead.Tie as tie
 
 abbrev Inv-loop : tie.InvT-loop
-Inv-loop kind fold text n i₀ i = (n ≡ length text) × Passed (codingBy fold kind) text i
+Inv-loop kind fold text n many i₀ i = (n ≡ length text) × Passed (codingBy fold kind) text i
 
 abbrev μ-loop : tie.MeasureT-loop
-μ-loop kind fold text n i₀ i = n - i
+μ-loop kind fold text n many i₀ i = n - i
 
 -- the loop's head, and the entry
 abbrev Head : Type 0
 Head = tie.At-loop Inv-loop μ-loop
 
+abbrev start : Head → tie.Start Inv-loop μ-loop
+start h = h .before .before .before .before .before
+
 abbrev coding : Head → Coding
-coding h = let a = h .before .before .before .args in codingBy (a .fold) (a .kind)
+coding h = codingBy (start h .args .fold) (start h .args .kind)
 
 abbrev given : Head → List ℕ
-given h = h .before .before .before .args .text .now
+given h = start h .args .text .now
 
-pass-of-requires : tie.Need-pass-of-requires Inv-loop μ-loop
-pass-of-requires c κs = search needs
+many-of-requires : tie.Need-many-of-requires Inv-loop μ-loop
+many-of-requires c κs = search needs
+
+-- all was passed many bytes at a test
+returns : tie.Need-returns Inv-loop μ-loop
+returns c =
+    let k = c .before in
+    let a = k .before .before .args in
+    passed-all (codingBy (a .fold) (a .kind)) (a .text .now) (k .many-of .result) (c .if1 .taken) (k .many-of .ensures)
+
+last-of-requires : tie.Need-last-of-requires Inv-loop μ-loop
+last-of-requires c κs = c .before .many-of .ensures
 
 loop-holds : tie.Need-loop-holds Inv-loop μ-loop
-loop-holds c = (refl, c .pass-of .ensures)
+loop-holds c = (refl, c .last-of .ensures)
 
 shared-slice-read-takes : tie.Need-shared-slice-read-takes Inv-loop μ-loop
 shared-slice-read-takes c = search needs
@@ -38,11 +51,11 @@ shared-slice-read-takes c = search needs
 takes-requires : tie.Need-takes-requires Inv-loop μ-loop
 takes-requires c κs = search needs
 
-returns : tie.Need-returns Inv-loop μ-loop
-returns c =
+returns-2 : tie.Need-returns-2 Inv-loop μ-loop
+returns-2 c =
     let t = c .before in
     let h = t .before .before .before in
-    passed-stops (coding h) (given h) (h .loop .i) (h .loop .inv .1) (sym (t .takes .ensures) ∙ not-true (t .takes .result) (c .if1 .taken))
+    passed-stops (coding h) (given h) (h .loop .i) (h .loop .inv .1) (sym (t .takes .ensures) ∙ not-true (t .takes .result) (c .if2 .taken))
 
 add-i : tie.Need-add-i Inv-loop μ-loop
 add-i c = search needs
@@ -54,11 +67,11 @@ loop-again : tie.Need-loop-again Inv-loop μ-loop
 loop-again c =
     let t = c .before in
     let h = t .before .before .before in
-    let member = sym (t .takes .ensures) ∙ not-false (t .takes .result) (c .if1 .left) in
+    let member = sym (t .takes .ensures) ∙ not-false (t .takes .result) (c .if2 .left) in
     (refl, passed-one (coding h) (given h) (h .loop .i) (h .loop .inv .1) (t .before .before .loop-test .taken) member)
 
-returns-2 : tie.Need-returns-2 Inv-loop μ-loop
-returns-2 c =
+returns-3 : tie.Need-returns-3 Inv-loop μ-loop
+returns-3 c =
     let h = c .before in
     passed-all (coding h) (given h) (h .loop .i) (c .loop-test .left) (h .loop .inv .1)
 
@@ -68,12 +81,14 @@ members-ahead-spec =
     (tie.spec
     Inv-loop
     μ-loop
-    pass-of-requires
+    many-of-requires
+    returns
+    last-of-requires
     loop-holds
     shared-slice-read-takes
     takes-requires
-    returns
+    returns-2
     add-i
     loop-less
     loop-again
-    returns-2)
+    returns-3)

@@ -1,4 +1,4 @@
-use mathlib.Core.Path.{_≡_, refl, subst}
+use mathlib.Core.Path.{_≡_, refl}
 use mathlib.Core.List.{List}
 use Prim.Native.Nat.{ℕ, _+_, _-_, _≤_}
 use native.Mathlib.Omega.{arith}
@@ -7,15 +7,15 @@ use borrow.Author.Tests.{not-false}
 use lib.ListN.{length}
 use Rattle.alphabet.specs.Symbols.{Coding, codingBy}
 use Rattle.members.specs.Members.{Passed}
-use Rattle.members.proofs.Passing.{passed-none, passed-more}
+use Rattle.members.proofs.Passing.{passed-more}
 use Rattle.members.proofs.find.pass.Statement.{statement}
 use Rattle.members.proofs.find.pass.Tie as tie
 
 abbrev Inv-loop : tie.InvT-loop
-Inv-loop kind fold text n i₀ i = (n ≡ length text) × (i ≤ n) × Passed (codingBy fold kind) text i
+Inv-loop kind fold text from step n i₀ i = (n ≡ length text) × (i ≤ n) × Passed (codingBy fold kind) text i
 
 abbrev μ-loop : tie.MeasureT-loop
-μ-loop kind fold text n i₀ i = n - i
+μ-loop kind fold text from step n i₀ i = n - i
 
 -- the loop's head, and the entry
 abbrev Head : Type 0
@@ -28,7 +28,7 @@ abbrev given : Head → List ℕ
 given h = h .before .before .args .text .now
 
 loop-holds : tie.Need-loop-holds Inv-loop μ-loop
-loop-holds c = let a = c .before .args in (refl, omega arith, passed-none (codingBy (a .fold) (a .kind)) (a .text .now))
+loop-holds c = (refl, c .before .pre .1 .within, c .before .pre .1)
 
 sub-loop : tie.Need-sub-loop Inv-loop μ-loop
 sub-loop c = search needs
@@ -43,35 +43,20 @@ add-i : tie.Need-add-i Inv-loop μ-loop
 add-i c = search needs
 
 loop-less : tie.Need-loop-less Inv-loop μ-loop
-loop-less c = search needs
+loop-less c = omega (arith, c .before .before .loop-test .taken, c .before .before .before .before .before .pre .0)
 
 loop-again : tie.Need-loop-again Inv-loop μ-loop
 loop-again c =
     let m = c .before in
     let h = m .before .before in
     let i : ℕ = h .loop .i in
-    let within : i + 64 ≤ length (given h) = omega (arith, m .before .loop-test .taken, h .loop .inv .1) in
-    let more = passed-more (coding h) (given h) i 64 (h .loop .inv .2) within (m .are-members .ensures (not-false (m .are-members .result) (c .if1 .left))) in
+    let step : ℕ = h .before .before .args .step in
+    let within : i + step ≤ length (given h) = omega (arith, m .before .loop-test .taken, h .loop .inv .1) in
+    let more = passed-more (coding h) (given h) i step (h .loop .inv .2) within (m .are-members .ensures (not-false (m .are-members .result) (c .if1 .left))) in
     (refl, omega (arith, m .before .loop-test .taken), more)
 
-sub-are-members : tie.Need-sub-are-members Inv-loop μ-loop
-sub-are-members c = c .before .loop .inv .1
-
-are-members-requires-2 : tie.Need-are-members-requires-2 Inv-loop μ-loop
-are-members-requires-2 c κs = omega (arith, c .before .loop .inv .1)
-
 returns-2 : tie.Need-returns-2 Inv-loop μ-loop
-returns-2 c =
-    let m = c .before in
-    let h = m .before .before in
-    let i : ℕ = h .loop .i in
-    let n : ℕ = length (given h) in
-    let all : i + (n - i) ≡ n = omega (arith, h .loop .inv .1) in
-    subst (λ (k : ℕ). Passed (coding h) (given h) k) all
-    (passed-more (coding h) (given h) i (n - i) (h .loop .inv .2) (omega arith) (m .are-members2 .ensures (c .if2 .taken)))
-
-returns-3 : tie.Need-returns-3 Inv-loop μ-loop
-returns-3 c = c .before .before .before .loop .inv .2
+returns-2 c = c .before .loop .inv .2
 
 pub pass-spec : {M : Type 1} → statement M
 pass-spec =
@@ -86,7 +71,4 @@ pass-spec =
     add-i
     loop-less
     loop-again
-    sub-are-members
-    are-members-requires-2
-    returns-2
-    returns-3)
+    returns-2)
