@@ -41,7 +41,7 @@ REQUESTS = {
         ("windows of 1 and of 10 bases of these two, both reads: not slower than before", 1.0,
             [f"window {n} {read} {alphabet}" for n in (1, 10) for read in ("zero-filling", "covered") for alphabet in ("DnaIupac", "Protein")]),
     ]),
-    "speed-1": ("packing, the search for non-members, whole decodes of Dna3bit and the stream have faster loops", [
+    "speed-1": ("packing, the search for non-members and the stream have faster loops", [
         ("`update` with pieces of 4,096 and of 65,536 bytes, and `encode_sequence`: not slower than before", 1.0, LONG_PACKING),
         ("stream in reads of 64 KiB: not slower than before", 1.0, STREAMS),
         ("guesses, whole and in pieces: within a twentieth of what they were", 1.05, GUESSES),
