@@ -28,13 +28,33 @@ all-is p = p .power .ensures ∙ power-is (omega (arith, p .before .pre))
 most : (p : Known) → p .power .result ≤ 1024
 most p = omega (arith, all-is p, pow-mono {i = p .before .args .b * 2} {j = 10} (omega (arith, p .before .pre)))
 
--- the two codes of a number, as indices
-first : (c : tie.After-field Inv-loop μ-loop) → (let a = c .before .before .before .before .args in let v = c .before .before .loop .v in
-    (c .field .result ≡ v / 2 ^ a .b % 2 ^ a .b) × (c .field .result < 32))
-first c = let s = c .before .before .before .before in code-is _ (omega (arith, s .pre)) (s .pre) (c .field .ensures)
+-- a turn: its number, and how wide a code is
+abbrev Turn : Type 0
+Turn = tie.In-loop Inv-loop μ-loop
 
-second : (c : tie.After-low Inv-loop μ-loop) → (let i = c .before .before .before in c .low .result ≡ i .before .loop .v % 2 ^ i .before .before .before .args .b)
-second c = c .low .ensures ∙ low-is (omega (arith, c .before .before .before .before .before .before .pre)) _
+abbrev number : Turn → ℕ
+number i = i .before .loop .v
+
+abbrev width : Turn → ℕ
+width i = i .before .before .before .args .b
+
+narrow : (i : Turn) → width i ≤ 5
+narrow i = i .before .before .before .pre
+
+-- the turn in which a number's second code is known, and the one in which its pair is
+abbrev halved : tie.After-low Inv-loop μ-loop → Turn
+halved c = c .before .before .before
+
+abbrev turn : tie.After-pair Inv-loop μ-loop → Turn
+turn c = halved (c .before .before)
+
+-- the two codes of a number, as indices
+first : (c : tie.After-field Inv-loop μ-loop) →
+    (c .field .result ≡ number (c .before) / 2 ^ width (c .before) % 2 ^ width (c .before)) × (c .field .result < 32)
+first c = code-is _ (omega (arith, narrow (c .before))) (narrow (c .before)) (c .field .ensures)
+
+second : (c : tie.After-low Inv-loop μ-loop) → c .low .result ≡ number (halved c) % 2 ^ width (halved c)
+second c = c .low .ensures ∙ low-is (omega (arith, narrow (halved c))) _
 
 mul-power : tie.Need-mul-power Inv-loop μ-loop
 mul-power c = search needs
@@ -56,18 +76,12 @@ low-requires c κs = search needs
 
 element-copy-out-pair-2 : tie.Need-element-copy-out-pair-2 Inv-loop μ-loop
 element-copy-out-pair-2 c =
-    let i = c .before .before .before in
-    let s = i .before .before .before in
-    omega (arith, second c, code-lt (i .before .loop .v) (s .args .b) (s .pre))
+    omega (arith, second c, code-lt (number (halved c)) (width (halved c)) (narrow (halved c)))
 
 pair-requires : tie.Need-pair-requires Inv-loop μ-loop
 pair-requires c κs = search needs
 
--- a turn
-abbrev turn : tie.After-pair Inv-loop μ-loop → tie.In-loop Inv-loop μ-loop
-turn c = c .before .before .before .before .before
-
-within : (c : tie.After-pair Inv-loop μ-loop) → turn c .before .loop .v < 1024
+within : (c : tie.After-pair Inv-loop μ-loop) → number (turn c) < 1024
 within c = omega (arith, turn c .loop-test .taken, most (turn c .before .before))
 
 mul-rows : tie.Need-mul-rows Inv-loop μ-loop
