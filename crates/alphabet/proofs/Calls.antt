@@ -10,10 +10,10 @@ use borrow.Author.Tests.{le-leb, lt-leb, leb-true, leb-false, eqb-true}
 use denote.Enum.Declared.{tagOf}
 use lib.Count.{trailingZeros}
 use lib.Dec.{leb, eqb, lit≤}
-use lib.ListN.{length, getD, take, List·getD-eq-default}
-use Rattle.alphabet.specs.Symbols.{canon, folded, folds, foldedEntries, codingBy}
+use lib.ListN.{length, getD, take, replicate, List·getD-eq-default}
+use Rattle.alphabet.specs.Symbols.{canon, folded, folds, codingBy}
 use Rattle.bits.specs.Tables.{at, tabulate, Bytes, bytesOf}
-use Rattle.bits.proofs.Tabulated.{is-tabulate}
+use Rattle.bits.proofs.Tabulated.{is-tabulate, getD-tabulate, tabulate-ext, replicate-tabulate}
 use Rattle.bits.proofs.Computed.{both-true}
 use Rattle.alphabet.specs.Questions.{ask_else_then_, Reply, accepted, refused, refusalReply, refusals, tells, firstTelling, by, numberIn}
 use Rattle.alphabet.specs.declared.refusal.Refusal.{Refusal}
@@ -31,7 +31,7 @@ use Rattle.alphabet.specs.declared.guesser.GuesserUpdated.{GuesserUpdate
 use Rattle.alphabet.specs.declared.guesser.Guessed.{Guessed}
 use Rattle.alphabet.proofs.kind.AlphabetType.{the-type}
 use Rattle.alphabet.proofs.Laws.{folded-append, folded-bytes}
-use Rattle.alphabet.proofs.Turns.{entries-folded}
+use Rattle.alphabet.proofs.Folding.{canon-lt}
 use Rattle.alphabet.proofs.Masks.{masked-append, masked-le, masked-sound, zeros-lt, guess-holds}
 
 -- ---- refusals
@@ -393,11 +393,17 @@ guess-members fold text bytes = held-members fold (guessOf fold text) text (gues
 
 -- ---- tables
 
--- a table of what bytes have in an alphabet, folded by the choice where it has an effect: each byte has what the byte that it stands for has
-pub table-folded : (fold effect : Bool) (k : AlphabetType) (entry : ℕ → ℕ) (table : List ℕ) {after : List ℕ} → table ≡ tabulate 256 entry
-    → effect ≡ (fold && folds k) → after ≡ foldedEntries effect table → after ≡ tabulate 256 (λ v. entry (canon (fold && folds k) v))
-table-folded fold effect k entry table t e q =
-    q ∙ ap (λ (f : Bool). foldedEntries f table) e ∙ entries-folded (fold && folds k) entry table t
+-- an alphabet's codes, laid into a table of one entry: each byte that stands for no symbol has that
+pub codes-over : (fold : Bool) (k : AlphabetType) (other : ℕ) (table : List ℕ) → table ≡ replicate 256 other
+    → tabulate 256 (λ v. cond (codingBy fold k .member v) (codingBy fold k .code v) (at table (canon (fold && folds k) v)))
+    ≡ tabulate 256 (λ v. cond (codingBy fold k .member v) (codingBy fold k .code v) other)
+codes-over fold k other table t =
+    let f : Bool = fold && folds k in
+    tabulate-ext 256 (λ v. cond (codingBy fold k .member v) (codingBy fold k .code v) (at table (canon f v)))
+    (λ v. cond (codingBy fold k .member v) (codingBy fold k .code v) other)
+    (λ v h.
+    ap (cond (codingBy fold k .member v) (codingBy fold k .code v))
+    (ap (λ (l : List ℕ). at l (canon f v)) (t ∙ replicate-tabulate 256 other) ∙ getD-tabulate 256 (λ i. other) (canon f v) 0 (canon-lt f v h)))
 
 -- ---- an answer is one of its cases
 

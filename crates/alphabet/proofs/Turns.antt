@@ -1,6 +1,6 @@
 -- One law for each turn of this crate's loops.
 use mathlib.Core.Path.{_≡_, refl, sym, ap, _∙_}
-use mathlib.Core.Bool.{Bool, true, false, cond, _||_}
+use mathlib.Core.Bool.{Bool, true, false, cond, _||_, _&&_}
 use mathlib.Core.List.{List, [], _∷_, map}
 use mathlib.Core.Logic.{_⊎_, inl, inr}
 use Prim.Native.Nat.{ℕ, suc, _+_, _-_, _<_, _≤_}
@@ -14,7 +14,9 @@ use lib.ListN.{length, getD, set, drop, length-set, drop-of-length-le}
 use lib.Seq.{drop-cons, drop-length, getD-drop, getD-set-other}
 use Rattle.bits.specs.Tables.{tabulate, at, Bytes}
 use Rattle.bits.proofs.Tabulated.{length-tabulate, getD-tabulate, is-tabulate, tabulate-ext, front-more, with-at, set-tabulate}
-use Rattle.alphabet.specs.Symbols.{symbolOf, codeOf, among, found, Coding, listed, plain, canon, folded, upper, foldedEntries}
+use Rattle.bits.proofs.Computed.{and-true, and-false}
+use Rattle.alphabet.specs.declared.kind.AlphabetType.{AlphabetType}
+use Rattle.alphabet.specs.Symbols.{symbolOf, codeOf, among, found, Coding, listed, plain, coding, canon, folded, upper, foldedEntries, folds, codingBy}
 use Rattle.alphabet.specs.Guess.{maskOf, masked}
 use Rattle.alphabet.proofs.Folding.{upper-below, upper-above, upper-between, canon-lt}
 use Rattle.alphabet.proofs.Laws.{at-folded, length-folded}
@@ -135,6 +137,30 @@ entries-folded fold f entries e =
     ap (λ (n : ℕ). tabulate n (λ v. at entries (canon fold v))) (ap length e ∙ length-tabulate 256 f)
     ∙ tabulate-ext 256 (λ v. at entries (canon fold v)) (λ v. f (canon fold v))
     (λ v h. ap (λ (l : List ℕ). at l (canon fold v)) e ∙ getD-tabulate 256 f (canon fold v) 0 (canon-lt fold v h))
+
+-- ---- an alphabet's codes, laid by a choice to fold
+
+module _ (entries : List ℕ) where
+  -- each byte that stands for a symbol has its code, and any other the entry of what it stands for
+  abbrev pub LaidBy : Bool → AlphabetType → List ℕ → Type 0
+  LaidBy fold k table = table ≡ tabulate 256 (λ v. cond (codingBy fold k .member v) (codingBy fold k .code v) (at entries (canon (fold && folds k) v)))
+
+  -- where the choice comes to f in the alphabet
+  by-choice : (fold f : Bool) (k : AlphabetType) (table : List ℕ) → (fold && folds k) ≡ f
+      → table ≡ tabulate 256 (λ v. cond (coding k .member (canon f v)) (coding k .code (canon f v)) (at entries (canon f v))) → LaidBy fold k table
+  by-choice fold f k table e h =
+      h ∙ ap (λ (g : Bool). tabulate 256 (λ v. cond (coding k .member (canon g v)) (coding k .code (canon g v)) (at entries (canon g v)))) (sym e)
+
+  -- in an alphabet that folds
+  pub laid-folding : (fold : Bool) (k : AlphabetType) → folds k ≡ true → (codes table : List ℕ) → Laid entries (coding k) codes → table ≡ foldedEntries fold codes
+      → LaidBy fold k table
+  laid-folding fold k does codes table e q =
+      by-choice fold fold k table (ap (λ (b : Bool). fold && b) does ∙ and-true fold)
+      (q ∙ entries-folded fold (λ v. cond (coding k .member v) (coding k .code v) (at entries v)) codes e)
+
+  -- and in one that does not
+  pub laid-whole : (fold : Bool) (k : AlphabetType) → folds k ≡ false → (table : List ℕ) → Laid entries (coding k) table → LaidBy fold k table
+  laid-whole fold k not table e = by-choice fold false k table (ap (λ (b : Bool). fold && b) not ∙ and-false fold) e
 
 -- ---- a list searched for a symbol
 

@@ -1,9 +1,7 @@
 // The choice to fold: with it a lowercase letter stands for its uppercase letter in the four packed alphabets.
-use crate::kind::AlphabetType;
 use bits::least;
 ghost use mathlib.Core.Path.{_≡_};
-ghost use mathlib.Core.Bool.{_&&_};
-ghost use Rattle.alphabet.specs.Symbols.{folds, foldedEntries};
+ghost use Rattle.alphabet.specs.Symbols.{foldedEntries};
 
 // Gives each byte's place in a table the entry of what the byte stands for: with folding 26 entries are copied. A table is folded where it lies, so that who does not
 // fold pays for the question alone.
@@ -16,28 +14,4 @@ pub fn fold_entries(fold: bool, table: &mut [u8])
             table[v] = table[v - 32];
         }
     }
-}
-
-// Whether an alphabet folds.
-fn does_fold(kind: AlphabetType) -> bool
-    ensures { λ r. ⌜ r ≡ folds kind ⌝ }
-{
-    match kind {
-        AlphabetType::Dna2bit => true,
-        AlphabetType::Dna3bit => true,
-        AlphabetType::DnaIupac => true,
-        AlphabetType::Protein => true,
-        AlphabetType::Ascii => false,
-        AlphabetType::Unknown => false,
-    }
-}
-
-// Whether the choice has an effect in an alphabet.
-pub fn has_effect(fold: bool, kind: AlphabetType) -> bool
-    ensures { λ r. ⌜ r ≡ (fold && folds kind) ⌝ }
-{
-    if fold {
-        return does_fold(kind);
-    }
-    false
 }

@@ -9,8 +9,6 @@ mod refusal;
 mod symbols;
 
 pub use bases::telling_bits;
-pub use fold::fold_entries;
-pub use fold::has_effect;
 pub use guesser::AlphabetGuesser;
 pub use guesser::Guessed;
 pub use guesser::GuesserUpdated;

@@ -1,12 +1,13 @@
 // The four symbol lists, and what follows from them: encoding, decoding, membership.
+use crate::fold::fold_entries;
 use crate::kind::AlphabetType;
 use bits::place;
 ghost use mathlib.Core.Path.{_≡_};
-ghost use mathlib.Core.Bool.{cond};
+ghost use mathlib.Core.Bool.{cond, _&&_};
 ghost use mathlib.Core.List.{map};
 ghost use lib.ListN.{length};
 ghost use Rattle.bits.specs.Tables.{tabulate, at};
-ghost use Rattle.alphabet.specs.Symbols.{symbolOf, codeOf, found, among, coding};
+ghost use Rattle.alphabet.specs.Symbols.{symbolOf, codeOf, found, among, canon, folds, foldedEntries, coding, codingBy};
 
 // The encoding table's entry for a byte that is no member.
 pub const INVALID_CODE: u8 = 0xFF;
@@ -91,6 +92,15 @@ fn lay(symbols: &[[u8; 2]], table: &mut [u8])
     }
 }
 
+// The same, and then each lowercase letter's place gets the entry of its uppercase letter, where that is chosen.
+fn lay_folded(symbols: &[[u8; 2]], fold: bool, table: &mut [u8])
+    requires { ⌜ length (now table) ≡ 256 ⌝ }
+    ensures { λ _. ⌜ now (table .exit) ≡ foldedEntries fold (tabulate 256 (λ v. found symbolOf codeOf (at (now (table .entry)) v) (now (symbols .entry)) v)) ⌝ }
+{
+    lay(symbols, table);
+    fold_entries(fold, table);
+}
+
 // The table of each code's symbol, for codes of at most five bits; a code that the list lacks decodes to `unassigned`.
 fn build_decoding(symbols: &[[u8; 2]], unassigned: u8) -> [u8; 32]
     ensures { λ r. ⌜ r ≡ tabulate 32 (found codeOf symbolOf unassigned (now (symbols .entry))) ⌝ }
@@ -119,7 +129,7 @@ fn is_listed(symbols: &[[u8; 2]], byte: u8) -> bool
     false
 }
 
-// The same where each byte is its own code.
+// Gives each byte's place in a table by the bytes' values the byte itself: in Ascii it is its own code.
 fn lay_bytes(table: &mut [u8])
     requires { ⌜ length (now table) ≡ 256 ⌝ }
     ensures { λ _. ⌜ now (table .exit) ≡ tabulate 256 (λ v. v) ⌝ }
@@ -140,16 +150,18 @@ fn identity_32() -> [u8; 32]
     table
 }
 
-// Gives each symbol's place in a table by the bytes' values the symbol's code; all other places stay, so that the caller chooses what they hold. The table is
-// written where it lies: handed out by value it would be copied, which a short piece would notice.
-pub fn lay_codes(kind: AlphabetType, table: &mut [u8; 256])
-    ensures { λ _. ⌜ now (table .exit) ≡ tabulate 256 (λ v. cond (coding kind .member v) (coding kind .code v) (at (now (table .entry)) v)) ⌝ }
+// Gives each byte that stands for a symbol, by the choice to fold, the symbol's code in a table by the bytes' values; all others keep what the caller put at the place of
+// what they stand for. The table is written where it lies: handed out by value it would be copied, which a short piece would notice. Each list is folded where it is
+// laid, and not all of them at one place behind: the compiler would else make one code of the four lists, which takes twice the time.
+pub fn lay_codes(kind: AlphabetType, fold: bool, table: &mut [u8; 256])
+    ensures { λ _. ⌜ now (table .exit)
+        ≡ tabulate 256 (λ v. cond (codingBy fold kind .member v) (codingBy fold kind .code v) (at (now (table .entry)) (canon (fold && folds kind) v))) ⌝ }
 {
     match kind {
-        AlphabetType::Dna2bit => lay(&DNA_2BIT_SYMBOLS, table),
-        AlphabetType::Dna3bit => lay(&DNA_3BIT_SYMBOLS, table),
-        AlphabetType::DnaIupac => lay(&DNA_IUPAC_SYMBOLS, table),
-        AlphabetType::Protein => lay(&PROTEIN_SYMBOLS, table),
+        AlphabetType::Dna2bit => lay_folded(&DNA_2BIT_SYMBOLS, fold, table),
+        AlphabetType::Dna3bit => lay_folded(&DNA_3BIT_SYMBOLS, fold, table),
+        AlphabetType::DnaIupac => lay_folded(&DNA_IUPAC_SYMBOLS, fold, table),
+        AlphabetType::Protein => lay_folded(&PROTEIN_SYMBOLS, fold, table),
         AlphabetType::Ascii => lay_bytes(table),
         AlphabetType::Unknown => lay_bytes(table),
     }
