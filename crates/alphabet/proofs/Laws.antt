@@ -4,7 +4,7 @@ use mathlib.Core.Bool.{Bool, true, false, cond, not, _||_, _&&_, true≢false}
 use mathlib.Core.List.{List, [], _∷_, _++_, map, map-append}
 use mathlib.Core.Logic.{_⊎_, inl, inr}
 use Prim.Native.Char.{code as ascii}
-use Prim.Native.Nat.{ℕ, zero, suc, _+_, _^_, _≤_, _<_}
+use Prim.Native.Nat.{ℕ, zero, suc, _+_, _-_, _/_, _%_, _^_, _≤_, _<_}
 use native.Mathlib.Nat.{pow-le-pow-right, zero-add}
 use native.Mathlib.Omega.{arith}
 use borrow.Author.Tests.{ltb-true, lt-ltb, eq-eqb, ne-eqb, eqb-true}
@@ -409,6 +409,19 @@ pub dna2bit-digits : (fold : Bool) (v : ℕ) → v < 256
 unfolding coding listed among found dna2bit coded bytesOf upper
 dna2bit-digits true v h = eqb→eq _ _ (below (toldDigit true) 256 tt v h)
 dna2bit-digits false v h = eqb→eq _ _ (below (toldDigit false) 256 tt v h)
+
+-- a member's code is told by two of its bits, in either case of letters: 0, 1, 2 and 3 in A, C, T and G, which have the codes 2, 1, 0 and 3. Computed, by either choice
+abbrev toldCode : Bool → ℕ → Bool
+toldCode fold v = cond (codingBy fold Dna2bit .member v) (eqb (codingBy fold Dna2bit .code v) ((6 - v / 2 % 4) % 4)) true
+
+where-true : (m t : Bool) → m ≡ true → T (cond m t true) → T t
+where-true true t e h = h
+where-true false t e h = absurd (true≢false (sym e))
+
+pub dna2bit-bits : (fold : Bool) (v : ℕ) → v < 256 → codingBy fold Dna2bit .member v ≡ true → codingBy fold Dna2bit .code v ≡ (6 - v / 2 % 4) % 4
+unfolding coding listed among found dna2bit coded bytesOf upper
+dna2bit-bits true v h m = eqb→eq _ _ (where-true (codingBy true Dna2bit .member v) _ m (below (toldCode true) 256 tt v h))
+dna2bit-bits false v h m = eqb→eq _ _ (where-true (codingBy false Dna2bit .member v) _ m (below (toldCode false) 256 tt v h))
 
 -- ---- the four bases
 

@@ -1,13 +1,13 @@
 -- The laws of a text's members that the crates above cite, for any coding.
 use mathlib.Core.Path.{_≡_, refl, sym, ap, _∙_}
-use mathlib.Core.Bool.{Bool, true, false, cond, not}
+use mathlib.Core.Bool.{Bool, true, false, cond, not, true≢false}
 use mathlib.Core.List.{List, [], _∷_}
 use Prim.Native.Nat.{ℕ, zero, suc, _-_, _≤_, _<_}
 use native.Mathlib.Nat.{le-of-suc-le-suc, not-suc-le-zero}
 use native.Mathlib.Omega.{arith}
 use lib.ListN.{length, take, drop}
 use Rattle.bits.specs.Tables.{at}
-use Rattle.bits.proofs.Counted.{many-rest, many-past, many-none}
+use Rattle.bits.proofs.Counted.{many-rest, many-past, many-none, none-many}
 use Rattle.alphabet.specs.Symbols.{Coding}
 use Rattle.members.specs.Members.{membersAhead, badIn}
 
@@ -59,6 +59,27 @@ module _ (A : Coding) where
       ap suc (ahead-is text r (le-of-suc-le-suc h) (λ j l. members (suc j) (omega arith)) (λ l. next (omega arith)))
       ∙ sym (rw (members 0 (omega arith)))
 
+  -- ---- a text of one byte
+
+  -- it has a member ahead where the byte is one, and else none
+  pub alone : (x : ℕ) → membersAhead A (x ∷ []) ≡ cond (A .member x) 1 0
+  unfolding membersAhead
+  alone x = refl
+
+  pub alone-member : (x r : ℕ) → r ≡ membersAhead A (x ∷ []) → r ≡ 1 → A .member x ≡ true
+  alone-member x r e one = go (A .member x) (sym (alone x) ∙ sym e ∙ one)
+    where
+      go : (m : Bool) → _≡_ {A = ℕ} (cond m 1 0) 1 → m ≡ true
+      go true h = refl
+      go false h = absurd (omega (arith, h))
+
+  pub alone-stranger : (x r : ℕ) → r ≡ membersAhead A (x ∷ []) → (r ≡ 1 → ⊥) → A .member x ≡ false
+  alone-stranger x r e other = go (A .member x) (λ h. other (e ∙ alone x ∙ h))
+    where
+      go : (m : Bool) → (_≡_ {A = ℕ} (cond m 1 0) 1 → ⊥) → m ≡ false
+      go true h = absurd (h refl)
+      go false h = refl
+
   -- ---- a text all of whose bytes are members
 
   pub ahead-all : (text : List ℕ) → ((j : ℕ) → j < length text → A .member (at text j) ≡ true) → membersAhead A text ≡ length text
@@ -66,6 +87,14 @@ module _ (A : Coding) where
 
   pub bad-none : (text : List ℕ) → ((j : ℕ) → j < length text → A .member (at text j) ≡ true) → badIn A text ≡ 0
   bad-none text members = many-none (λ v. not (A .member v)) text (λ j l. ap not (members j l))
+
+  -- and so they are where no non-member is counted
+  pub none-bad : (text : List ℕ) → badIn A text ≡ 0 → (j : ℕ) → j < length text → A .member (at text j) ≡ true
+  none-bad text e j l = go (A .member (at text j)) (none-many (λ v. not (A .member v)) text e j l)
+    where
+      go : (m : Bool) → not m ≡ false → m ≡ true
+      go true h = refl
+      go false h = absurd (true≢false h)
 
   -- ---- all non-members stand from the first one on
 
