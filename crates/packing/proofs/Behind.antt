@@ -1,6 +1,7 @@
 -- A text packed in two runs, one behind the other: the first over its first n symbols, the second, behind what pends then and into the memory behind what is written, over
 -- the others.
 use mathlib.Core.Path.{_≡_, refl, sym, ap, ap₂, _∙_}
+use mathlib.Core.Bool.{Bool}
 use mathlib.Core.List.{List, [], _∷_, _++_, map, append-assoc, append-nil}
 use Prim.Native.Nat.{ℕ, zero, suc, _+_, _-_, _*_, _/_, _%_, _^_, _≤_, _<_}
 use native.Mathlib.Nat.{add-mul, mul-assoc, mul-le-mul-right, div-lt-iff-lt-mul, mul-add-div-right, mul-add-mod-self-right}
@@ -16,7 +17,8 @@ use Rattle.bits.specs.Memory.{front}
 use Rattle.bits.proofs.Words.{word-lt, word-bit, bit-cong}
 use Rattle.bits.proofs.Hand.{hand-lt, hand-plain, cut-ext}
 use Rattle.bits.proofs.Appended.{length-cut, cut-moved, cut-add}
-use Rattle.packing.specs.Run.{Pends, Ready, ran}
+use Rattle.alphabet.specs.Symbols.{Coding}
+use Rattle.packing.specs.Run.{Pends, Ready, Clean, ran}
 
 -- a part of a slice, as it is lent
 abbrev pub part : List ℕ → ℕ → List ℕ
@@ -24,6 +26,12 @@ part xs k = take (length xs - k) (drop k xs)
 
 pub part-is : (xs : List ℕ) (k : ℕ) → part xs k ≡ drop k xs
 part-is xs k = take-all (length xs - k) (drop k xs) (omega (arith, length-drop k xs))
+
+-- of a clean text it is clean
+pub clean-part : (clean : Bool) (A : Coding) (text : List ℕ) (k : ℕ) → Clean clean A text → Clean clean A (part text k)
+clean-part clean A text k all e j l =
+    let long : length (part text k) ≡ length text - k = ap length (part-is text k) ∙ length-drop k text in
+    ap (λ (xs : List ℕ). A .member (at xs j)) (part-is text k) ∙ ap (A .member) (getD-drop k text j 0) ∙ all e (k + j) (omega (arith, long, l))
 
 pub map-take : (f : ℕ → ℕ) (xs : List ℕ) (n : ℕ) → map f (take n xs) ≡ take n (map f xs)
 map-take f xs zero = refl

@@ -8,7 +8,7 @@ use native.Mathlib.Omega.{arith}
 use borrow.Author.Tests.{le-leb, lt-leb, leb-true, lt-ltb, le-ltb, ltb-true, eq-eqb, ne-eqb, eqb-true}
 use lib.Dec.{leb, ltb, eqb, lit<}
 use lib.ListN.{length, length-map, set}
-use Rattle.bits.specs.Tables.{tabulate}
+use Rattle.bits.specs.Tables.{tabulate, at}
 use Rattle.bits.specs.Streams.{word, cut}
 use Rattle.bits.specs.Packing.{bytesFor, atHand}
 use Rattle.bits.specs.Memory.{front}
@@ -38,6 +38,7 @@ use Rattle.packing.specs.Encode.{pieceBits, pieceBitCount, updated, upda
 use Rattle.packing.specs.Encode.{finalizeRest, finalizeAt, finalizeWrites, finalizeMemory}
 use Rattle.packing.specs.Range.{rangeAt}
 use Rattle.packing.specs.Run.{dueAt, Pends, ran, leftOver}
+use Rattle.packing.proofs.Search.{none-first}
 use Rattle.packing.proofs.Padded.{last-byte}
 
 -- ---- byte ranges
@@ -364,12 +365,19 @@ module _ (A : Coding) (text : List ℕ) (room : ℕ) where
   encode-first h l f e = sym (rw (le-leb (length text) limit h, le-leb due room l, e))
 
   -- an accepted text: what was asked
-  pub encode-accepted : (count : ℕ) → encodeBy A text room ≡ Encoded.Wrote count → (length text ≤ limit) × (bytesFor (length text * A .width) ≤ room)
+  pub encode-accepted : (count : ℕ) → encodeBy A text room ≡ Encoded.Wrote count
+      → (length text ≤ limit) × ((bytesFor (length text * A .width) ≤ room) × ((j : ℕ) → j < length text → A .member (at text j) ≡ true))
   encode-accepted count e =
       let no : (q : Refusal) → Encoded.Refused q ≡ Encoded.Wrote count → ⊥ = λ q z. let o : _≡_ {A = ℕ} 0 1 = cc in omega arith in
       let y₁ = asked-yes (inBounds (length text)) (no (by 2 [])) e in
       let y₂ = asked-yes (leb due room) (no (by 4 [])) (y₁ .1) in
-      (leb-true (length text) limit (y₁ .0), leb-true due room (y₂ .0))
+      (leb-true (length text) limit (y₁ .0), (leb-true due room (y₂ .0), none-first A 0 text (none (firstFrom A 0 text) (y₂ .1))))
+    where
+      none : (f : First)
+          → unlessBad f (λ position byte. Encoded.Refused (by 5 (position ∷ byte ∷ badIn A text ∷ []))) (Encoded.Wrote (bytesFor (length text * A .width))) ≡ Encoded.Wrote count
+          → f ≡ First.Nothing
+      none First.Nothing h = refl
+      none (First.At position byte) h = absurd (let o : _≡_ {A = ℕ} 0 1 = cc in omega arith)
 
 -- and of its alphabet's number
 module _ (n : ℕ) (fold : Bool) (text memory : List ℕ) where

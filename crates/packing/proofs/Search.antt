@@ -5,7 +5,7 @@ use mathlib.Core.List.{List, [], _∷_}
 use Prim.Native.Nat.{ℕ, suc, _+_, _≤_, _<_}
 use native.Mathlib.Nat.{add-zero}
 use native.Mathlib.Omega.{arith}
-use borrow.Author.Tests.{eq-eqb, ne-eqb}
+use borrow.Author.Tests.{eq-eqb, ne-eqb, eqb-true}
 use lib.Dec.{eqb, eqb·zero-suc, eqb·suc-suc}
 use lib.ListN.{length}
 use Rattle.bits.specs.Tables.{at}
@@ -40,6 +40,17 @@ module _ (A : Coding) where
   pub first-none : (from : ℕ) (text : List ℕ) → ((j : ℕ) → j < length text → A .member (at text j) ≡ true) → firstFrom A from text ≡ First.Nothing
   first-none from text h =
       first-ahead from text ∙ rw (eq-eqb (membersAhead A text) (length text) (ahead-all A text h))
+
+  -- and so it is where no first non-member is found
+  pub none-first : (from : ℕ) (text : List ℕ) → firstFrom A from text ≡ First.Nothing → (j : ℕ) → j < length text → A .member (at text j) ≡ true
+  none-first from text e j l = ahead-members A text j (go (eqb a (length text)) refl (sym (first-ahead from text) ∙ e))
+    where
+      a : ℕ
+      a = membersAhead A text
+
+      go : (b : Bool) → eqb a (length text) ≡ b → cond b First.Nothing (First.At (from + a) (at text a)) ≡ First.Nothing → j < a
+      go true q h = omega (arith, eqb-true a (length text) q, l)
+      go false q h = absurd (let o : _≡_ {A = ℕ} 0 1 = cc in omega arith)
 
   -- where r is the first one's place
   module _ (text : List ℕ) (r : ℕ) (first : r ≡ membersAhead A text) where

@@ -1,6 +1,6 @@
 -- Dna2bit packed by arithmetic: a byte's digit, four digits as one byte, 64 digits as 16, and all whole blocks of a text.
 use mathlib.Core.Path.{_≡_, refl, sym, ap, ap₂, _∙_, subst}
-use mathlib.Core.Bool.{Bool, cond, _||_}
+use mathlib.Core.Bool.{Bool, true, cond, _||_}
 use mathlib.Core.List.{List, map}
 use Prim.Native.Nat.{ℕ, _+_, _-_, _*_, _/_, _%_, _^_, _≤_, _<_}
 use native.Mathlib.Nat.{zero-add, add-zero, add-comm, mod-eq-of-lt, lt-of-le-of-lt, mul-add-div-right, mul-add-mod-self-right}
@@ -21,7 +21,7 @@ use Rattle.bits.proofs.Hand.{hand-plain}
 use Rattle.bits.proofs.Put.{Filled, none-filled, more-filled, put-front}
 use Rattle.alphabet.specs.Symbols.{codingBy}
 use Rattle.alphabet.specs.declared.kind.AlphabetType.the-variants.{Dna2bit}
-use Rattle.alphabet.proofs.Laws.{dna2bit-digits, ucscDigit, taken, widths}
+use Rattle.alphabet.proofs.Laws.{dna2bit-digits, dna2bit-bits, ucscDigit, taken, widths}
 use Rattle.packing.specs.Encode.{digitOf, digitsOf}
 use Rattle.packing.specs.Run.{ran}
 
@@ -53,6 +53,11 @@ digit-made fold v h =
     eqb→eq (codeIn (tamed x)) (ucscDigit x) (below is-digit 256 every-byte x (lt-of-le-of-lt (and-le-l v (cond fold 0xdf 0xff)) h))
     ∙ sym (dna2bit-digits fold v h)
     ∙ ap (λ (b : ℕ). cond (codingBy fold Dna2bit .member v) (codingBy fold Dna2bit .code v) (2 ^ b - 1)) (sym (width fold))
+
+-- of a member that is the code by its own bits
+pub member-made : (fold : Bool) (v : ℕ) → v < 256 → codingBy fold Dna2bit .member v ≡ true → codeIn v ≡ digitOf (codingBy fold Dna2bit) v
+unfolding digitOf
+member-made fold v h m = sym (rw m (dna2bit-bits fold v h m))
 
 digit-small : (fold : Bool) (v : ℕ) → v < 256 → digitOf (codingBy fold Dna2bit) v < 4
 digit-small fold v h = rw (← digit-made fold v h) (omega arith)

@@ -2,6 +2,7 @@
 -- in Encode.antt; this is the contract between them and the loops, which know digits and mostly no alphabet.
 use Prim.Native.Nat.{ℕ, _+_, _*_, _/_, _%_, _^_, _≤_, _<_}
 use mathlib.Core.Path.{_≡_}
+use mathlib.Core.Bool.{Bool, true}
 use mathlib.Core.List.{List, [], map}
 use lib.Dec.{leb}
 use lib.ListN.{length}
@@ -46,6 +47,10 @@ Digits b table = (x : ℕ) → at table x < 2 ^ b
 -- a call's table: in a packed alphabet each byte's digit. A plain one needs none
 abbrev pub Tabled : Coding → List ℕ → Type 0
 Tabled A table = A .width < 8 → table ≡ tabulate 256 (digitOf A)
+
+-- a text that is taken to be clean has members alone
+abbrev pub Clean : Bool → Coding → List ℕ → Type 0
+Clean clean A text = clean ≡ true → (j : ℕ) → j < length text → A .member (at text j) ≡ true
 
 -- a text's entries in a table
 abbrev pub looked : List ℕ → List ℕ → List ℕ

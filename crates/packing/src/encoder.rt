@@ -12,9 +12,9 @@ use alphabet::AlphabetType;
 use alphabet::Named;
 use alphabet::Refusal;
 use alphabet::kind_of_number;
-use alphabet::takes;
 use bits::LIMIT;
 use bits::power;
+use members::members_ahead;
 ghost use mathlib.Core.Path.{_≡_};
 ghost use mathlib.Core.Bool.{true};
 ghost use Prim.Native.Nat.{_+_, _≤_};
@@ -60,7 +60,8 @@ pub enum Finalized {
 }
 
 // Whether a first non-member is none of the alphabet, by the choice to fold, and was seen; and whether there are as many as the symbols seen allow: none without
-// a first one, and with it one or more, which stand from its position on.
+// a first one, and with it one or more, which stand from its position on. The byte is searched as a text by itself: the comparisons of all alphabets, written out
+// here, would keep the compiler from laying the question into its callers, which takes a tenth of the time of a short piece.
 fn is_sound_bad(kind: AlphabetType, fold: bool, seen: usize, bad: Bad) -> bool
     ensures { λ r. ⌜ r ≡ soundBad (codingBy fold kind) seen bad ⌝ }
 {
@@ -69,7 +70,8 @@ fn is_sound_bad(kind: AlphabetType, fold: bool, seen: usize, bad: Bad) -> bool
     match first {
         First::Nothing => count == 0,
         First::At { position, byte } => {
-            if takes(kind, fold, byte) {
+            let one = [byte];
+            if members_ahead(kind, fold, &one) == 1 {
                 return false;
             }
             if seen <= position {
@@ -203,10 +205,12 @@ impl SequenceEncoder {
             Due::Refused(refusal) => Updated::Refused(refusal, self),
             Due::Bytes(count) => {
                 let found = bad_from(kind, self.fold, self.seen, piece);
+                let strangers = found.count;
                 let next = self.next(&table, piece, found);
                 pack(
                     kind,
                     self.fold,
+                    strangers == 0,
                     &table,
                     self.seen,
                     self.pending as u64,

@@ -2,7 +2,7 @@
 // cost as much as members.
 use alphabet::telling_bits;
 ghost use mathlib.Core.Path.{_≡_};
-ghost use mathlib.Core.Bool.{cond, _||_};
+ghost use mathlib.Core.Bool.{true, cond, _||_};
 ghost use Prim.Native.Nat.{ℕ, _+_, _-_, _*_, _/_, _%_, _^_, _≤_, _<_};
 ghost use lib.Bits.{bitAnd};
 ghost use lib.Dec.{eqb};
@@ -13,7 +13,7 @@ ghost use Rattle.bits.specs.Memory.{putAt};
 ghost use Rattle.alphabet.specs.Symbols.{codingBy};
 ghost use Rattle.alphabet.specs.declared.kind.AlphabetType.the-variants.{Dna2bit};
 ghost use Rattle.packing.specs.Encode.{digitOf, digitsOf};
-ghost use Rattle.packing.specs.Run.{ran};
+ghost use Rattle.packing.specs.Run.{Clean, ran};
 
 // A base as it is, and G, whose code is all ones, for any other byte. A and C differ in one bit, so that one comparison tells both.
 fn tame(x: u8) -> u8
@@ -32,21 +32,26 @@ fn code(x: u8) -> u8
     (6 - (x >> 1) % 4) % 4
 }
 
-// A byte's digit: the code of the base that it stands for, and ones where it stands for none.
-fn digit(fold: bool, x: u8) -> u8
+// A byte's digit: the code of the base that it stands for, and ones where it stands for none. In a clean text there is no such byte, and the two bits that tell a code
+// are the same in both cases of letters.
+fn digit(fold: bool, clean: bool, x: u8) -> u8
+    requires { ⌜ (clean ≡ true → codingBy fold Dna2bit .member x ≡ true) ⌝ }
     ensures { λ r. ⌜ r ≡ digitOf (codingBy fold Dna2bit) x ⌝ }
 {
+    if clean {
+        return code(x);
+    }
     code(tame(x & telling_bits(fold)))
 }
 
 // The digits of 64 bytes, from byte i on, a byte each.
-fn codes_of(fold: bool, text: &[u8], i: usize) -> [u8; 64]
-    requires { ⌜ i + 64 ≤ length (now text) ⌝ }
+fn codes_of(fold: bool, clean: bool, text: &[u8], i: usize) -> [u8; 64]
+    requires { ⌜ (i + 64 ≤ length (now text)) × Clean clean (codingBy fold Dna2bit) (now text) ⌝ }
     ensures { λ r. ⌜ r ≡ tabulate 64 (λ j. digitOf (codingBy fold Dna2bit) (at (now (text .entry)) (i + j))) ⌝ }
 {
     let mut codes = [0u8; 64];
     for j in 0..64 {
-        codes[j] = digit(fold, text[i + j]);
+        codes[j] = digit(fold, clean, text[i + j]);
     }
     codes
 }
@@ -93,11 +98,11 @@ fn packed16(codes: &[u8; 64]) -> [u8; 16]
 
 // Packs 64 bytes, from byte i on, into 16, from place w on. The arrays are whole before one byte is stored: output that might be the text would make the compiler go
 // byte by byte.
-fn put_64(fold: bool, text: &[u8], i: usize, out: &mut [u8], w: usize)
-    requires { ⌜ (i + 64 ≤ length (now text)) × (w + 16 ≤ length (now out)) ⌝ }
+fn put_64(fold: bool, clean: bool, text: &[u8], i: usize, out: &mut [u8], w: usize)
+    requires { ⌜ (i + 64 ≤ length (now text)) × ((w + 16 ≤ length (now out)) × Clean clean (codingBy fold Dna2bit) (now text)) ⌝ }
     ensures { λ _. ⌜ now (out .exit) ≡ putAt w (cut 8 (bitAt 2 (λ j. digitOf (codingBy fold Dna2bit) (at (now (text .entry)) j))) (i * 2) 16) (now (out .entry)) ⌝ }
 {
-    let codes = codes_of(fold, text, i);
+    let codes = codes_of(fold, clean, text, i);
     let bytes = packed16(&codes);
     for j in 0..16 {
         out[w + j] = bytes[j];
@@ -105,15 +110,15 @@ fn put_64(fold: bool, text: &[u8], i: usize, out: &mut [u8], w: usize)
 }
 
 // Packs the whole blocks of 64 bytes that a text begins with, and tells how many there are.
-pub fn pack_fours(fold: bool, text: &[u8], out: &mut [u8]) -> usize
-    requires { ⌜ length (now text) / 64 * 16 ≤ length (now out) ⌝ }
+pub fn pack_fours(fold: bool, clean: bool, text: &[u8], out: &mut [u8]) -> usize
+    requires { ⌜ (length (now text) / 64 * 16 ≤ length (now out)) × Clean clean (codingBy fold Dna2bit) (now text) ⌝ }
     ensures { λ r. ⌜ (r ≡ length (now (text .entry)) / 64)
         × (now (out .exit) ≡ ran 2 0 0 (digitsOf (codingBy fold Dna2bit) (take (r * 64) (now (text .entry)))) (now (out .entry))) ⌝ }
 {
     let n = text.len() / 64;
     let mut b = 0;
     while b < n {
-        put_64(fold, text, b * 64, out, b * 16);
+        put_64(fold, clean, text, b * 64, out, b * 16);
         b += 1;
     }
     n

@@ -12,6 +12,7 @@ use bits::LIMIT;
 use members::count_strangers;
 use members::members_ahead;
 ghost use mathlib.Core.Path.{_≡_};
+ghost use mathlib.Core.Bool.{true};
 ghost use Prim.Native.Nat.{_*_, _≤_};
 ghost use lib.ListN.{length};
 ghost use Rattle.bits.specs.Packing.{bytesFor};
@@ -19,7 +20,7 @@ ghost use Rattle.bits.specs.Memory.{front};
 ghost use Rattle.alphabet.specs.Questions.{limit};
 ghost use Rattle.alphabet.specs.Symbols.{codingBy};
 ghost use Rattle.packing.specs.Encode.{packing, encodeBy, encodeAt, encodeMemory};
-ghost use Rattle.packing.specs.Run.{Tabled};
+ghost use Rattle.packing.specs.Run.{Tabled, Clean};
 
 // What `encode_sequence` answers: the bytes written.
 pub enum Encoded {
@@ -50,12 +51,12 @@ fn asked(kind: AlphabetType, fold: bool, text: &[u8], room: usize) -> Encoded
     Encoded::Wrote(count)
 }
 
-// Writes the packing of a text, its last byte included.
+// Writes the packing of a text of members, its last byte included.
 fn write_packing(kind: AlphabetType, fold: bool, table: &[u8; 256], text: &[u8], out: &mut [u8])
-    requires { ⌜ (length (now text) ≤ limit) × ((bytesFor (length (now text) * codingBy fold kind .width) ≤ length (now out)) × Tabled (codingBy fold kind) (now table)) ⌝ }
+    requires { ⌜ (length (now text) ≤ limit) × ((bytesFor (length (now text) * codingBy fold kind .width) ≤ length (now out)) × (Tabled (codingBy fold kind) (now table) × Clean true (codingBy fold kind) (now text))) ⌝ }
     ensures { λ _. ⌜ now (out .exit) ≡ front (packing (codingBy fold kind) (now (text .entry))) (now (out .entry)) ⌝ }
 {
-    run::pack(kind, fold, table, 0, 0, text, out);
+    run::pack(kind, fold, true, table, 0, 0, text, out);
     let b = kind.bits_per_symbol();
     let total = text.len() * b;
     if total % 8 != 0 {

@@ -1,8 +1,6 @@
 // A call's table: for each of the 256 bytes the b bits that it is packed as, its code or, where it is no member, ones. So a digit is added to others as it is, with no
 // mask. A plain alphabet needs no table.
 use alphabet::AlphabetType;
-use alphabet::fold_entries;
-use alphabet::has_effect;
 use alphabet::lay_codes;
 use bits::power;
 ghost use mathlib.Core.Path.{_≡_};
@@ -27,6 +25,5 @@ pub fn lay_digits(kind: AlphabetType, fold: bool, table: &mut [u8; 256])
     if 8 <= kind.bits_per_symbol() {
         return;
     }
-    lay_codes(kind, table);
-    fold_entries(has_effect(fold, kind), table);
+    lay_codes(kind, fold, table);
 }

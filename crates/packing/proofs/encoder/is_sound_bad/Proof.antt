@@ -1,18 +1,26 @@
-use mathlib.Core.Path.{_≡_, sym, _∙_}
-use mathlib.Core.Bool.{false}
+use mathlib.Core.Path.{_≡_}
+use mathlib.Core.Bool.{true, false}
 use borrow.Author.Needs.{needs}
-use Rattle.alphabet.specs.Symbols.{codingBy}
+use borrow.Author.Tests.{eqb-true}
+use Rattle.alphabet.specs.Symbols.{Coding, codingBy}
+use Rattle.members.proofs.Laws.{alone-member, alone-stranger}
 use Rattle.packing.proofs.Ends.{sound-none, sound-at-member, sound-at-unseen, sound-at-zero, sound-at-some}
 use Rattle.packing.proofs.encoder.is_sound_bad.Statement.{statement}
 use Rattle.packing.proofs.encoder.is_sound_bad.Tie as tie
 
--- where the first non-member is known
-abbrev known : tie.After-takes → tie.After-first
-known t = t .before .before
+-- where the byte is searched, the first non-member is known, and the entry
+abbrev known : tie.After-members-ahead → tie.After-first
+known t = t .before .before .before
 
--- past the question whether it is a member
-stranger : (e : tie.Else1) → let f = known (e .before) in let a = f .before .before .args in codingBy (a .fold) (a .kind) .member (f .first .given .0 .1 .0) ≡ false
-stranger e = sym (e .before .takes .ensures) ∙ e .if1 .left
+abbrev codingOf : tie.After-members-ahead → Coding
+codingOf t = let a = known t .before .before .args in codingBy (a .fold) (a .kind)
+
+-- what the search tells of the byte
+member : (t : tie.Then1) → codingOf (t .before) .member (known (t .before) .first .given .0 .1 .0) ≡ true
+member t = alone-member (codingOf (t .before)) _ _ (t .before .members-ahead .ensures) (t .if1 .taken)
+
+stranger : (e : tie.Else1) → codingOf (e .before) .member (known (e .before) .first .given .0 .1 .0) ≡ false
+stranger e = alone-stranger (codingOf (e .before)) _ _ (e .before .members-ahead .ensures) (e .if1 .left)
 
 enum-told : tie.Need-enum-told
 enum-told c = search needs
@@ -20,11 +28,14 @@ enum-told c = search needs
 enum-known-first : tie.Need-enum-known-first
 enum-known-first c = search needs
 
-takes-requires : tie.Need-takes-requires
-takes-requires c κs = search needs
+slice-aggregate-members-ahead : tie.Need-slice-aggregate-members-ahead
+slice-aggregate-members-ahead c = search needs
+
+members-ahead-requires : tie.Need-members-ahead-requires
+members-ahead-requires c κs = search needs
 
 returns : tie.Need-returns
-returns c = sound-at-member _ _ _ _ _ (known (c .before) .first .given .1) (sym (c .before .takes .ensures) ∙ c .if1 .taken)
+returns c = sound-at-member _ _ _ _ _ (known (c .before) .first .given .1) (member c)
 
 returns-2 : tie.Need-returns-2
 returns-2 c = sound-at-unseen _ _ _ _ _ (known (c .before .before) .first .given .1) (stranger (c .before)) (c .if2 .taken)
@@ -51,7 +62,8 @@ is-sound-bad-spec =
     (tie.spec
     enum-told
     enum-known-first
-    takes-requires
+    slice-aggregate-members-ahead
+    members-ahead-requires
     returns
     returns-2
     returns-3

@@ -13,11 +13,11 @@ use Rattle.packing.proofs.fours.codes_of.Statement.{statement}
 use Rattle.packing.proofs.fours.codes_of.Tie as tie
 
 abbrev Inv-loop : tie.InvT-loop
-Inv-loop fold text i codes₀ j₀ codes j =
+Inv-loop fold clean text i codes₀ j₀ codes j =
     (j ≤ 64) × (length codes ≡ 64) × ((k : ℕ) → k < j → at codes k ≡ digitOf (codingBy fold Dna2bit) (at text (i + k)))
 
 abbrev μ-loop : tie.MeasureT-loop
-μ-loop fold text i codes₀ j₀ codes j = 64 - j
+μ-loop fold clean text i codes₀ j₀ codes j = 64 - j
 
 loop-holds : tie.Need-loop-holds Inv-loop μ-loop
 loop-holds c = (search needs, search needs, λ k h. absurd (not-suc-le-zero h))
@@ -29,7 +29,10 @@ shared-slice-read-digit : tie.Need-shared-slice-read-digit Inv-loop μ-loop
 shared-slice-read-digit c = search needs
 
 digit-requires : tie.Need-digit-requires Inv-loop μ-loop
-digit-requires c κs = search needs
+digit-requires c κs =
+    let h = c .before .before in
+    let s = h .before .before in
+    λ e. s .pre .1 e (s .args .i + h .loop .j) (omega (arith, s .pre .0, c .before .loop-test .taken))
 
 array-write-codes : tie.Need-array-write-codes Inv-loop μ-loop
 array-write-codes c = search needs

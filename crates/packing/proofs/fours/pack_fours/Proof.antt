@@ -8,10 +8,10 @@ use Rattle.packing.proofs.fours.pack_fours.Statement.{statement}
 use Rattle.packing.proofs.fours.pack_fours.Tie as tie
 
 abbrev Inv-loop : tie.InvT-loop
-Inv-loop fold text out₀ n b₀ out b = (n ≡ length text / 64) × (b ≤ n) × (length out ≡ length out₀) × Packed fold text out₀ b out
+Inv-loop fold clean text out₀ n b₀ out b = (n ≡ length text / 64) × (b ≤ n) × (length out ≡ length out₀) × Packed fold text out₀ b out
 
 abbrev μ-loop : tie.MeasureT-loop
-μ-loop fold text out₀ n b₀ out b = n - b
+μ-loop fold clean text out₀ n b₀ out b = n - b
 
 -- back from a turn: the loop's head, and the entry
 abbrev turn : tie.After-put-64 Inv-loop μ-loop → tie.In-loop Inv-loop μ-loop
@@ -22,7 +22,7 @@ start h = h .before .before .before
 
 -- there is memory for a block
 room : (i : tie.In-loop Inv-loop μ-loop) → i .before .loop .b * 16 + 16 ≤ length (start (i .before) .args .out .now)
-room i = omega (arith, i .loop-test .taken, start (i .before) .pre)
+room i = omega (arith, i .loop-test .taken, start (i .before) .pre .0)
 
 loop-holds : tie.Need-loop-holds Inv-loop μ-loop
 loop-holds c = let a = c .before .before .args in (refl, zero-le, refl, none-packed (a .fold) (a .text .now) (a .out .now))
@@ -34,7 +34,9 @@ mul-put-64-2 : tie.Need-mul-put-64-2 Inv-loop μ-loop
 mul-put-64-2 c = search needs
 
 put-64-requires : tie.Need-put-64-requires Inv-loop μ-loop
-put-64-requires c κs = (omega (arith, c .before .loop-test .taken), rw (c .before .before .loop .inv .2) (room (c .before)))
+put-64-requires c κs =
+    let i = c .before in
+    (omega (arith, i .loop-test .taken), (rw (i .before .loop .inv .2) (room i), start (i .before) .pre .1))
 
 add-b : tie.Need-add-b Inv-loop μ-loop
 add-b c = search needs
@@ -50,7 +52,7 @@ loop-again c =
     let a = start (i .before) .args in (
       refl,
       omega (arith, i .loop-test .taken),
-      w .put-64 .kept .1 .1 .1 .0 ∙ o .inv .2,
+      w .put-64 .kept .1 .1 .1 .1 .0 ∙ o .inv .2,
       w .put-64 .ensures ∙ more-packed (a .fold) (a .text .now) (a .out .now) (o .b) (o .out) (o .inv .3) (room i),
     )
 

@@ -15,10 +15,10 @@ use Rattle.packing.proofs.fours.put_64.Statement.{statement}
 use Rattle.packing.proofs.fours.put_64.Tie as tie
 
 abbrev Inv-loop : tie.InvT-loop
-Inv-loop fold text i out₀ w bytes j₀ out j = (j ≤ 16) × (length out ≡ length out₀) × Filled (at bytes) w out₀ j out
+Inv-loop fold clean text i out₀ w bytes j₀ out j = (j ≤ 16) × (length out ≡ length out₀) × Filled (at bytes) w out₀ j out
 
 abbrev μ-loop : tie.MeasureT-loop
-μ-loop fold text i out₀ w bytes j₀ out j = 16 - j
+μ-loop fold clean text i out₀ w bytes j₀ out j = 16 - j
 
 -- back from the bytes: the codes that they are made of, and the entry
 abbrev coded : tie.After-packed16 Inv-loop μ-loop → tie.After-codes-of Inv-loop μ-loop
@@ -29,10 +29,10 @@ start d = d .before .before .before
 
 -- there is memory for a byte
 room : (c : tie.In-loop Inv-loop μ-loop) → (let a = start (coded (c .before .before)) .args in a .w + c .before .loop .j < length (a .out .now))
-room c = omega (arith, start (coded (c .before .before)) .pre .1, c .loop-test .taken)
+room c = omega (arith, start (coded (c .before .before)) .pre .1 .0, c .loop-test .taken)
 
 codes-of-requires : tie.Need-codes-of-requires Inv-loop μ-loop
-codes-of-requires c κs = search needs
+codes-of-requires c κs = let s = c .before .before in (s .pre .0, s .pre .1 .1)
 
 packed16-requires : tie.Need-packed16-requires Inv-loop μ-loop
 packed16-requires c κs =

@@ -35,7 +35,7 @@ abbrev count : tie.After-fours-of → ℕ
 count k = k .fours-of .result
 
 abbrev out : tie.After-fours-of → List ℕ
-out k = k .fours-of .last .1 .1 .1 .0
+out k = k .fours-of .last .1 .1 .1 .1 .0
 
 bytes : (k : tie.After-fours-of) → Bytes (entry k .args .text .now)
 bytes k i = width k .before .before .shared-slice-known .given i .fits
@@ -58,7 +58,7 @@ bits-per-symbol-requires : tie.Need-bits-per-symbol-requires
 bits-per-symbol-requires c κs = search needs
 
 fours-of-requires : tie.Need-fours-of-requires
-fours-of-requires c κs = search needs
+fours-of-requires c κs = let s = start (c .before) in (omega (arith, s .pre .0 .fits), s .pre .1 .1 .1)
 
 mul-i : tie.Need-mul-i
 mul-i c = search needs
@@ -80,10 +80,10 @@ abbrev run : tie.After-pack-table-arg → tie.After-fours-of
 run c = c .before .before .before
 
 sub-pack-table-2 : tie.Need-sub-pack-table-2
-sub-pack-table-2 c = let k = run c in omega (arith, fits k, k .fours-of .kept .1 .1 .1 .0)
+sub-pack-table-2 c = let k = run c in omega (arith, fits k, k .fours-of .kept .1 .1 .1 .1 .0)
 
 part-pack-table-start-2 : tie.Need-part-pack-table-start-2
-part-pack-table-start-2 c = let k = run c in omega (arith, fits k, k .fours-of .kept .1 .1 .1 .0)
+part-pack-table-start-2 c = let k = run c in omega (arith, fits k, k .fours-of .kept .1 .1 .1 .1 .0)
 
 part-pack-table-end-2 : tie.Need-part-pack-table-end-2
 part-pack-table-end-2 c = search needs
@@ -94,8 +94,8 @@ pack-table-requires c κs =
     let s = entry k in
     let a = s .args in
     let ready = ready-behind (codingOf k .width) 0 0 (digitOf (codingOf k)) (a .text .now) (a .out .now) (s .pre .0) (count k * 64) (count k * 16) 0 0 (k .fours-of .ensures .0)
-    (omega arith) (place k) (held k) (out k) (k .fours-of .kept .1 .1 .1 .0) in
-    let small = digits-small (a .fold) (a .kind) (a .table .now) (s .pre .1 .1) in
+    (omega arith) (place k) (held k) (out k) (k .fours-of .kept .1 .1 .1 .1 .0) in
+    let small = digits-small (a .fold) (a .kind) (a .table .now) (s .pre .1 .1 .0) in
     subst (λ (b : ℕ). Ready b 0 0 (length (part (a .text .now) (count k * 64))) (length (part (out k) (count k * 16))) × (Narrow b × Digits b (a .table .now)))
     (sym (width k .bits-per-symbol .ensures)) (ready, (two-to-five (a .fold) (a .kind) (s .pre .1 .0), small))
 
@@ -104,7 +104,7 @@ same-length c =
     let k = run (c .before .before .before .before) in
     let w = count k * 16 in
     let r = c .before .before .pack-table in
-    same-len-mid w (length (out k) - w) (out k) (r .last .1 .1 .1 .0) (r .kept .1 .1 .1 .0) ∙ k .fours-of .kept .1 .1 .1 .0
+    same-len-mid w (length (out k) - w) (out k) (r .last .1 .1 .1 .0) (r .kept .1 .1 .1 .0) ∙ k .fours-of .kept .1 .1 .1 .1 .0
 
 returns : tie.Need-returns
 returns c =
@@ -117,7 +117,7 @@ returns c =
     let tail = r .ensures
     ∙ ap (λ (b : ℕ). ran b 0 0 (looked (a .table .now) rest) (part (out k) (count k * 16))) (width k .bits-per-symbol .ensures)
     ∙ ap (λ (d : List ℕ). ran (codingOf k .width) 0 0 d (part (out k) (count k * 16)))
-    (looked-part (a .fold) (a .kind) (a .table .now) (s .pre .1 .1) (a .text .now) (bytes k) (count k * 64) (length (a .text .now) - count k * 64)) in
+    (looked-part (a .fold) (a .kind) (a .table .now) (s .pre .1 .1 .0) (a .text .now) (bytes k) (count k * 64) (length (a .text .now) - count k * 64)) in
     let first = k .fours-of .ensures .1 .1
     ∙ ran-head (codingOf k .width) 0 0 g (a .text .now) (a .out .now) (s .pre .0) (count k * 64) (count k * 16) 0 0 (k .fours-of .ensures .0) (omega arith) (place k) (held k) in
     ran-behind (codingOf k .width) 0 0 g (a .text .now) (a .out .now) (s .pre .0) (count k * 64) (count k * 16) 0 0 (k .fours-of .ensures .0) (omega arith) (place k) (held k)

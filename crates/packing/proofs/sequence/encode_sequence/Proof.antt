@@ -98,7 +98,7 @@ write-packing-requires c κs =
     let f = found k in
     let a = start f .args in
     let h = encode-accepted (codingOf f) (a .text .now) (length (a .out .now)) _ (wrote t) in
-    (h .0, (h .1, table k .lay-digits .ensures))
+    (h .0, (h .1 .0, (table k .lay-digits .ensures, λ e. h .1 .1)))
 
 same-length : tie.Need-same-length
 same-length c = search needs

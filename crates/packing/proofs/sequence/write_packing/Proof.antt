@@ -37,7 +37,7 @@ abbrev start : tie.After-pack → tie.Start
 start k = k .before .before .before .before
 
 abbrev out : tie.After-pack → List ℕ
-out k = k .pack .last .1 .1 .1 .1 .1 .1 .0
+out k = k .pack .last .1 .1 .1 .1 .1 .1 .1 .0
 
 wrote : (k : tie.After-pack) → out k ≡ ran (codingOf (start k) .width) 0 0 (digits (start k)) (start k .args .out .now)
 wrote k =
@@ -66,7 +66,7 @@ left l =
     let a = s .args in
     l .left-over .ensures
     ∙ ap (λ (b : ℕ). leftOver b 0 0 (looked (a .table .now) (a .text .now))) (w .bits-per-symbol .ensures)
-    ∙ left-digits (a .fold) (a .kind) (a .table .now) (a .text .now) (s .pre .1 .1) (λ i. packed w .before .before .before .shared-slice-known .given i .fits) 0 0 (λ h. refl)
+    ∙ left-digits (a .fold) (a .kind) (a .table .now) (a .text .now) (s .pre .1 .1 .0) (λ i. packed w .before .before .before .shared-slice-known .given i .fits) 0 0 (λ h. refl)
 
 pack-requires : tie.Need-pack-requires
 pack-requires c κs =
@@ -108,7 +108,7 @@ slice-write-out c =
     let t = c .before .before in
     let w = t .before in
     let s = entry w in
-    omega (arith, t .if1 .taken, s .pre .1 .0, ap (λ (b : ℕ). length (s .args .text .now) * b) (w .bits-per-symbol .ensures), packed w .pack .kept .1 .1 .1 .1 .1 .1 .0)
+    omega (arith, t .if1 .taken, s .pre .1 .0, ap (λ (b : ℕ). length (s .args .text .now) * b) (w .bits-per-symbol .ensures), packed w .pack .kept .1 .1 .1 .1 .1 .1 .1 .0)
 
 same-length : tie.Need-same-length
 same-length c = search needs

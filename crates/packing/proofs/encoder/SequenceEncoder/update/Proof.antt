@@ -2,13 +2,16 @@ use mathlib.Core.Path.{_≡_, sym, ap, _∙_, subst}
 use mathlib.Core.Bool.{true}
 use Prim.Native.Nat.{ℕ, _*_, _%_}
 use native.Mathlib.Omega.{arith}
-use borrow.Author.Tests.{not-true, not-false}
+use borrow.Author.Tests.{not-true, not-false, eqb-true}
 use borrow.Author.Needs.{needs}
+use lib.Dec.{eqb}
 use lib.ListN.{length, replicate}
+use Rattle.members.proofs.Laws.{none-bad}
+use Rattle.packing.specs.declared.bad.Bad.{Bad}
 use Rattle.packing.specs.declared.encoder.SequenceEncoder.{SequenceEncoder}
 use Rattle.packing.specs.declared.encoder.Updated.the-variants.{Wrote}
 use Rattle.packing.specs.Encode.{digitsOf, packsBy, soundEncoder, updated, updateAt}
-use Rattle.packing.specs.Run.{Ready, ran}
+use Rattle.packing.specs.Run.{Ready, Clean, ran}
 use Rattle.packing.proofs.Ends.{sound, pends, update-unsound, update-refused, update-fine, Accepted, update-accepted, update-kept, update-wrote}
 use Rattle.packing.proofs.encoder.SequenceEncoder.update.Statement.{statement}
 use Rattle.packing.proofs.encoder.SequenceEncoder.update.Tie as tie
@@ -57,6 +60,13 @@ told n = found (n .before .before)
 -- where it is written
 abbrev stated : tie.After-pack-arg → tie.After-next
 stated c = c .before .before .before
+
+-- where no non-member is counted the piece has members alone
+clean : (n : tie.After-next) → let a = entry (told n) .args in Clean (eqb (n .before .before .bad-from .result .count) 0) (packsBy (a .self)) (a .piece .now)
+clean n e =
+    let b = n .before .before in
+    let a = entry (told n) .args in
+    none-bad (packsBy (a .self)) (a .piece .now) (sym (ap (λ (x : Bad). x .count) (b .bad-from .ensures)) ∙ eqb-true _ 0 e)
 
 -- as many bits pend as the state says
 pending : (t : tie.After-count) → entry t .args .self .bits ≡ entry t .args .self .seen * packsBy (entry t .args .self) .width % 8
@@ -107,7 +117,7 @@ pack-requires c κs =
     let ready : Ready (packsBy (a .self) .width) (a .self .bits) (a .self .pending) n (length (a .out .now)) =
     record { pends = pends (a .self) (a .piece .now) (met t .is-sound) (met t .bounded); fits = met t .fits } in (
       subst (λ (p : ℕ). Ready (packsBy (a .self) .width) p (a .self .pending) n (length (a .out .now))) (pending t) ready,
-      (omega (arith, met t .bounded), table (asked (judged t)) .lay-digits .ensures),
+      (omega (arith, met t .bounded), (table (asked (judged t)) .lay-digits .ensures, clean (stated c))),
     )
 
 returns-2 : tie.Need-returns-2
@@ -130,7 +140,7 @@ returns-3 c =
     let s = a .self in
     let yes = ap (λ (x : SequenceEncoder). Wrote (t .count .given .0 .0) x) (n .next .ensures) ∙ accepted t in
     let done = p .pack .ensures ∙ ap (λ (q : ℕ). ran (packsBy s .width) q (s .pending) (digitsOf (packsBy s) (a .piece .now)) (a .out .now)) (sym (pending t)) in
-    (yes, update-wrote s (a .piece .now) (a .out .now) _ _ (sym (accepted t)) (p .pack .last .1 .1 .1 .1 .1 .1 .0) done)
+    (yes, update-wrote s (a .piece .now) (a .out .now) _ _ (sym (accepted t)) (p .pack .last .1 .1 .1 .1 .1 .1 .1 .0) done)
 
 pub update-spec : {M : Type 1} → statement M
 update-spec =
