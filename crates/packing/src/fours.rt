@@ -1,5 +1,5 @@
-// Dna2bit: four bases to a byte, by arithmetic. There is no table and no branch by a byte's value, so that the compiler packs many bases at once, and non-members
-// cost as much as members.
+// Dna2bit: four bases to a byte, by arithmetic. There is no table and no branch by a byte's value, so that the compiler packs many bases at once. A text with
+// non-members costs the same however many they are, and a clean one, which has none, less.
 use alphabet::telling_bits;
 ghost use mathlib.Core.Path.{_≡_};
 ghost use mathlib.Core.Bool.{true, cond, _||_};
