@@ -152,7 +152,7 @@ fn identity_32() -> [u8; 32]
 
 // Gives each byte that stands for a symbol, by the choice to fold, the symbol's code in a table by the bytes' values; all others keep what the caller put at the place of
 // what they stand for. The table is written where it lies: handed out by value it would be copied, which a short piece would notice. Each list is folded where it is
-// laid, and not all of them at one place behind: the compiler would else make one code of the four lists, which takes twice the time.
+// laid, and not all of them at one place behind: the compiler would else make one code of the four lists, which a short piece would notice too.
 pub fn lay_codes(kind: AlphabetType, fold: bool, table: &mut [u8; 256])
     ensures { λ _. ⌜ now (table .exit)
         ≡ tabulate 256 (λ v. cond (codingBy fold kind .member v) (codingBy fold kind .code v) (at (now (table .entry)) (canon (fold && folds kind) v))) ⌝ }
