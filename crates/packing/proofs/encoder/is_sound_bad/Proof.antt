@@ -1,7 +1,6 @@
 use mathlib.Core.Path.{_≡_}
 use mathlib.Core.Bool.{true, false}
 use borrow.Author.Needs.{needs}
-use borrow.Author.Tests.{eqb-true}
 use Rattle.alphabet.specs.Symbols.{Coding, codingBy}
 use Rattle.members.proofs.Laws.{alone-member, alone-stranger}
 use Rattle.packing.proofs.Ends.{sound-none, sound-at-member, sound-at-unseen, sound-at-zero, sound-at-some}
