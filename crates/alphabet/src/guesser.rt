@@ -21,21 +21,21 @@ const ASCII_BIT: u8 = 16;
 const GUESS_CHUNK: usize = 4096;
 
 // The guesser's state: bit i of `acc` is set while alphabet i of ALPHABET_ORDER can hold every byte seen, by the choice to fold.
-#[derive(Drop)]
+#[derive(Clone, Copy)]
 pub struct AlphabetGuesser {
     pub acc: u8,
     pub fold: bool,
 }
 
 // What `update` answers.
-#[derive(Drop)]
+#[derive(Clone, Copy)]
 pub enum GuesserUpdated {
     Next(AlphabetGuesser),
     Refused(Refusal, AlphabetGuesser),
 }
 
 // What `guess` answers.
-#[derive(Drop)]
+#[derive(Clone, Copy)]
 pub enum Guessed {
     Kind(AlphabetType),
     Refused(Refusal, AlphabetGuesser),

@@ -1,4 +1,6 @@
 // The alphabets: symbols and codes, names and numbers, and the guess of a text's alphabet.
+#![tactic(auto)]
+
 mod bases;
 mod fold;
 mod guesser;

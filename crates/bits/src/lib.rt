@@ -1,4 +1,6 @@
 // What every storey above shares: definitions and laws of lists and bits, the bits of a word, and the largest position.
+#![tactic(auto)]
+
 mod word;
 
 ghost use Rattle.std.specs.Prelude.{◌≡◌, ◌-◌, ◌<◌, min};

@@ -1,4 +1,6 @@
 // The coder layer under one name: packing, windows and the stream, over the alphabets' promises.
+#![tactic(auto)]
+
 pub use packing::{
     Bad, Encoded, EncoderStarted, Finalized, First, Range, SequenceEncoder, Updated,
     byte_range_for_bases, encode_sequence,

@@ -115,7 +115,7 @@ fn encoder_of(state: SequenceEncoder) -> Encoder
 
 // The state that a host's numbers stand for, where each fits its field, or the number by which they are refused. Whether it is
 // sound is asked by the call that gets it.
-#[derive(Drop)]
+#[derive(Clone, Copy)]
 pub enum State {
     Fits(SequenceEncoder),
     Refused(u64),

@@ -9,7 +9,7 @@ use alphabet::{AlphabetGuesser, Guessed, GuesserUpdated, guess_alphabet};
 
 // The state that a host's numbers stand for, where each fits its field, or the number by which they are refused. Whether it is
 // sound is asked by the call that gets it.
-#[derive(Drop)]
+#[derive(Clone, Copy)]
 pub enum State {
     Fits(AlphabetGuesser),
     Refused(u64),

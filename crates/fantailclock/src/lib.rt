@@ -1,4 +1,6 @@
 // The host library: one function for each entry point, with the C convention (include/fantailclock.h).
+#![tactic(auto)]
+
 mod encoders;
 mod guesses;
 mod kinds;

@@ -8,14 +8,14 @@ ghost use Rattle.fantailclock.specs.Shapes.{details, chosen};
 use alphabet::Refusal;
 
 #[repr(C)]
-#[derive(Drop)]
+#[derive(Clone, Copy)]
 pub struct Number {
     pub refusal: u64,
     pub value: u64,
 }
 
 #[repr(C)]
-#[derive(Drop)]
+#[derive(Clone, Copy)]
 pub struct Count {
     pub refusal: u64,
     pub count: u64,
@@ -23,7 +23,7 @@ pub struct Count {
 
 // `value` is the base whose code is no symbol's where the refusal is 18, and else 0.
 #[repr(C)]
-#[derive(Drop)]
+#[derive(Clone, Copy)]
 pub struct Covered {
     pub refusal: u64,
     pub count: u64,
@@ -32,21 +32,21 @@ pub struct Covered {
 
 // A guesser's state; `fold` is 0 or 1.
 #[repr(C)]
-#[derive(Drop)]
+#[derive(Clone, Copy)]
 pub struct Guesser {
     pub mask: u64,
     pub fold: u64,
 }
 
 #[repr(C)]
-#[derive(Drop)]
+#[derive(Clone, Copy)]
 pub struct Guessing {
     pub refusal: u64,
     pub next: Guesser,
 }
 
 #[repr(C)]
-#[derive(Drop)]
+#[derive(Clone, Copy)]
 pub struct Range {
     pub refusal: u64,
     pub start: u64,
@@ -54,7 +54,7 @@ pub struct Range {
 }
 
 #[repr(C)]
-#[derive(Drop)]
+#[derive(Clone, Copy)]
 pub struct Packed {
     pub refusal: u64,
     pub count: u64,
@@ -65,7 +65,7 @@ pub struct Packed {
 
 // An encoder's state; `bad_position` and `bad_byte` are of no account where `has_bad` is 0, `bad_count` is 0 there, and `fold` is 0 or 1.
 #[repr(C)]
-#[derive(Drop)]
+#[derive(Clone, Copy)]
 pub struct Encoder {
     pub alphabet: u64,
     pub seen: u64,
@@ -79,14 +79,14 @@ pub struct Encoder {
 }
 
 #[repr(C)]
-#[derive(Drop)]
+#[derive(Clone, Copy)]
 pub struct EncoderStarted {
     pub refusal: u64,
     pub next: Encoder,
 }
 
 #[repr(C)]
-#[derive(Drop)]
+#[derive(Clone, Copy)]
 pub struct Updated {
     pub refusal: u64,
     pub count: u64,
@@ -95,7 +95,7 @@ pub struct Updated {
 
 // A stream's state; `skip` is 0 once it is done.
 #[repr(C)]
-#[derive(Drop)]
+#[derive(Clone, Copy)]
 pub struct Stream {
     pub alphabet: u64,
     pub skip: u64,
@@ -105,7 +105,7 @@ pub struct Stream {
 }
 
 #[repr(C)]
-#[derive(Drop)]
+#[derive(Clone, Copy)]
 pub struct StreamStarted {
     pub refusal: u64,
     pub next: Stream,
@@ -113,7 +113,7 @@ pub struct StreamStarted {
 
 // `status` is 1 Hungry, 2 Done, 3 Full, and 0 on a refusal.
 #[repr(C)]
-#[derive(Drop)]
+#[derive(Clone, Copy)]
 pub struct Streamed {
     pub refusal: u64,
     pub taken: u64,
@@ -124,7 +124,7 @@ pub struct Streamed {
 
 // `outstanding` is 0 unless the refusal is 7.
 #[repr(C)]
-#[derive(Drop)]
+#[derive(Clone, Copy)]
 pub struct Ended {
     pub refusal: u64,
     pub outstanding: u64,
@@ -156,7 +156,7 @@ pub fn number_of_fold(fold: bool) -> u64
 
 // What a refusal tells beside its number: the first non-member's position and byte and how many there are, or the bases outstanding, or the base whose code is
 // no symbol's; zeros where it tells nothing.
-#[derive(Drop)]
+#[derive(Clone, Copy)]
 pub struct Details {
     pub first: u64,
     pub second: u64,

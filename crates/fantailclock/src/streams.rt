@@ -10,7 +10,7 @@ use streaming::{Status, StreamingDecoder};
 
 // The state that a host's numbers stand for, where each fits its field, or the number by which they are refused. Whether it is
 // sound is asked by the call that gets it.
-#[derive(Drop)]
+#[derive(Clone, Copy)]
 pub enum State {
     Fits(StreamingDecoder),
     Refused(u64),

@@ -4,7 +4,7 @@ ghost use Rattle.lines.specs.Digits.{digit as Digits·digit};
 ghost use Rattle.lines.specs.Spelt.{Spelt};
 
 // A number's decimal digits: the bytes from `from` on. Twenty hold those of every 64-bit number.
-#[derive(Drop)]
+#[derive(Clone, Copy)]
 pub struct Numeral {
     pub bytes: [u8; 20],
     pub from: usize,

@@ -1,4 +1,6 @@
 // Lines of text on lent memory: what programs print of a packing.
+#![tactic(auto)]
+
 mod digits;
 mod line;
 mod put;

@@ -1,4 +1,6 @@
 // The members of an alphabet in a text: how many it begins with, and how many bytes are none. By comparisons and no table, many bytes at a test.
+#![tactic(auto)]
+
 mod count;
 mod find;
 

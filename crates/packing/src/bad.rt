@@ -10,7 +10,7 @@ use members::{count_strangers, members_ahead};
 
 // The first non-member, where there is one, and how many there are. Each is a field by itself, so that a host's numbers can be handed in as they are, and
 // question 4 asks whether they go together.
-#[derive(Drop)]
+#[derive(Clone, Copy)]
 pub struct Bad {
     pub first: First,
     pub count: usize,

@@ -16,7 +16,7 @@ use members::members_ahead;
 
 // The state between pieces: `seen` symbols so far, of which `bits` bits, of value `pending`, fill no byte yet; the non-members among them. Whether lowercase
 // letters fold is chosen once, for the whole text.
-#[derive(Drop)]
+#[derive(Clone, Copy)]
 pub struct SequenceEncoder {
     pub alphabet: AlphabetType,
     pub seen: usize,
@@ -27,28 +27,28 @@ pub struct SequenceEncoder {
 }
 
 // What `new` answers.
-#[derive(Drop)]
+#[derive(Clone, Copy)]
 pub enum EncoderStarted {
     Fresh(SequenceEncoder),
     Refused(Refusal),
 }
 
 // What `update` answers: the bytes written and the next state.
-#[derive(Drop)]
+#[derive(Clone, Copy)]
 pub enum Updated {
     Wrote(usize, SequenceEncoder),
     Refused(Refusal, SequenceEncoder),
 }
 
 // What comes of a piece's length: the bytes that it completes, or a refusal.
-#[derive(Drop)]
+#[derive(Clone, Copy)]
 pub enum Due {
     Bytes(usize),
     Refused(Refusal),
 }
 
 // What `finalize` answers: the bytes written.
-#[derive(Drop)]
+#[derive(Clone, Copy)]
 pub enum Finalized {
     Wrote(usize),
     Refused(Refusal, SequenceEncoder),

@@ -1,7 +1,7 @@
 // The first byte of a text that is no member of an alphabet.
 
 // A non-member's position and byte, where there is one.
-#[derive(Drop)]
+#[derive(Clone, Copy)]
 pub enum First {
     Nothing,
     At { position: usize, byte: u8 },

@@ -16,7 +16,7 @@ use bits::LIMIT;
 use members::{count_strangers, members_ahead};
 
 // What `encode_sequence` answers: the bytes written.
-#[derive(Drop)]
+#[derive(Clone, Copy)]
 pub enum Encoded {
     Wrote(usize),
     Refused(Refusal),

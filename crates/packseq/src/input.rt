@@ -5,7 +5,7 @@ ghost use Rattle.packseq.specs.Input.{room, bytes_read, reading_after, AfterSome
 use libc::STDIN_FILENO;
 
 // How far reading has come: so many bytes, with more to be read; all that there is, so many bytes; or a read failed.
-#[derive(Drop)]
+#[derive(Clone, Copy)]
 pub enum Reading {
     More(usize),
     Whole(usize),

@@ -1,5 +1,7 @@
 // Guesses the alphabet of standard input, at most 16,384 bytes, packs it, and prints the alphabet's display name, the input's byte count in decimal and the
 // packed bytes in lowercase hexadecimal, a line each.
+#![tactic(auto)]
+
 mod input;
 mod put;
 

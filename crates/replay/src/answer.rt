@@ -4,7 +4,7 @@ ghost use Rattle.std.specs.Prelude.{◌≡◌, true};
 use fantailclock::{Count, Covered, Number, Packed};
 
 // How many numbers the function takes, how many its answer has, and these; `tells` is 0 for a name that names no function.
-#[derive(Drop)]
+#[derive(Clone, Copy)]
 pub struct Answer {
     pub takes: usize,
     pub tells: usize,

@@ -7,7 +7,7 @@ use crate::report::print_answer;
 use bytes::scan::find;
 use check::same;
 
-#[derive(Drop)]
+#[derive(Clone, Copy)]
 pub enum Outcome {
     Agreed,
     Differs,
@@ -15,7 +15,7 @@ pub enum Outcome {
 }
 
 // A call's numbers, bytes and output memory: how many, and where the field behind them begins.
-#[derive(Drop)]
+#[derive(Clone, Copy)]
 struct Call {
     found: bool,
     numbers: usize,
@@ -25,7 +25,7 @@ struct Call {
 }
 
 // An answer's numbers and memory: how many.
-#[derive(Drop)]
+#[derive(Clone, Copy)]
 struct Told {
     found: bool,
     words: usize,

@@ -1,5 +1,7 @@
 // Replays a list of calls on the host library's functions: each line of standard input holds a call and its answer (the list's head says how), and what the
 // port answers is compared with it. Prints for each function how many lines agreed, and each line that differs or is no call.
+#![tactic(auto)]
+
 mod answer;
 mod encoders;
 mod kinds;

@@ -6,7 +6,7 @@ ghost use Rattle.replay.specs.Fields.{digit_of, written};
 use bytes::scan::find;
 
 // A number: whether there is one, its value, and where the next field begins.
-#[derive(Drop)]
+#[derive(Clone, Copy)]
 pub struct Value {
     pub found: bool,
     pub value: u64,
@@ -14,7 +14,7 @@ pub struct Value {
 }
 
 // Numbers, or bytes: whether the field is there, how many, and where the next field begins.
-#[derive(Drop)]
+#[derive(Clone, Copy)]
 pub struct Row {
     pub found: bool,
     pub count: usize,

@@ -9,7 +9,7 @@ use check::same;
 
 // Of the present run: where in the list its function's name stands, how many calls there were, and how many agreed. Of the list so far: calls, comments, and
 // lines that are neither.
-#[derive(Drop)]
+#[derive(Clone, Copy)]
 pub struct Tally {
     pub from: usize,
     pub to: usize,

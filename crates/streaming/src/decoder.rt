@@ -6,7 +6,7 @@ use crate::flow::{carry, opened, pump};
 use alphabet::{AlphabetType, Named, Refusal, kind_of_number};
 
 // `skip` bits are to be passed over first (0: done, or never due); `budget` bases are to come; `bits` bits, of value `pending`, are taken and not used.
-#[derive(Drop)]
+#[derive(Clone, Copy)]
 pub struct StreamingDecoder {
     pub alphabet: AlphabetType,
     pub skip: u8,
@@ -15,7 +15,7 @@ pub struct StreamingDecoder {
     pub pending: u8,
 }
 
-#[derive(Drop)]
+#[derive(Clone, Copy)]
 pub enum Status {
     Hungry,
     Done,
@@ -23,14 +23,14 @@ pub enum Status {
 }
 
 // What `StreamingDecoder::new` answers.
-#[derive(Drop)]
+#[derive(Clone, Copy)]
 pub enum StreamStarted {
     Fresh(StreamingDecoder),
     Refused(Refusal),
 }
 
 // What a stream call answers: bytes taken, bases written, status and next state.
-#[derive(Drop)]
+#[derive(Clone, Copy)]
 pub enum Streamed {
     Moved {
         taken: usize,
@@ -42,7 +42,7 @@ pub enum Streamed {
 }
 
 // What the end call answers.
-#[derive(Drop)]
+#[derive(Clone, Copy)]
 pub enum Ended {
     Complete,
     Refused(Refusal, StreamingDecoder),

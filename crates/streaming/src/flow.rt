@@ -14,7 +14,7 @@ use bits::{beyond, byte_at, field, least, low, power, push_byte};
 const CLEARED: usize = 64;
 
 // `written` bases are written, and `taken` source bytes are taken; `have` bits, of value `acc`, are taken and not used.
-#[derive(Drop)]
+#[derive(Clone, Copy)]
 pub(crate) struct Flow {
     pub acc: u64,
     pub have: usize,

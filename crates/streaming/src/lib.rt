@@ -1,4 +1,6 @@
 // The stream: the bases of a stretch of packed bytes, fed in pieces.
+#![tactic(auto)]
+
 mod decoder;
 mod flow;
 

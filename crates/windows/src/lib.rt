@@ -1,4 +1,6 @@
 // Windows: the symbols of a stretch of a packed file of which some bytes are lent.
+#![tactic(auto)]
+
 mod asked;
 mod blocks;
 mod fours;

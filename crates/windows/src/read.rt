@@ -16,14 +16,14 @@ use crate::rolling::roll;
 use alphabet::{AlphabetType, Refusal, decoding_array};
 
 // What every read of a window answers: the bases written.
-#[derive(Drop)]
+#[derive(Clone, Copy)]
 pub enum Read {
     Bases(usize),
     Refused(Refusal),
 }
 
 // Which engine writes: an alphabet's own, the fours of Dna2bit, the blocks of Dna3bit, DnaIupac and Protein, or the rolling one, which takes any alphabet.
-#[derive(Drop)]
+#[derive(Clone, Copy)]
 enum Engine {
     Own,
     Fours,

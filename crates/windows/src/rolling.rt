@@ -11,7 +11,7 @@ use alphabet::AlphabetType;
 use bits::{field, push_byte};
 
 // Bits that were read and not yet used: the `have` ones before byte `next`. They are the low bits of `acc`; what stands above them is used.
-#[derive(Drop)]
+#[derive(Clone, Copy)]
 pub struct Held {
     pub next: usize,
     pub have: usize,

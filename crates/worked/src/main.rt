@@ -1,4 +1,6 @@
 // Runs rows of the worked table, and UCSC's published example, on the code itself; what it prints is held to the rules' table.
+#![tactic(auto)]
+
 use alphabet::{AlphabetType, Named, Refusal};
 use coder::{
     Encoded, EncoderStarted, Ended, Finalized, Read, SequenceEncoder, Status, StreamStarted,
