@@ -12,11 +12,11 @@ use Rattle.bits.proofs.word.low.Tie as tie
 power-requires : tie.Need-power-requires
 power-requires c κs = search rules
 
-sub-result : tie.Need-overflow-sub-result
+sub-result : tie.Need-overflow_sub-result
 sub-result c = omega (arith, pow_pos (c.before.args.n % 64))
 
 returns : tie.Need-returns
 returns c = let a = c.before.args in ap (λ (m : ℕ). bit_and a.x (m - 1)) c.power.ensures ∙ and_mask a.x (a.n % 64)
 
-pub low-spec : {M : Type 1} → statement M
-low-spec = tie.close (tie.spec power-requires sub-result returns)
+pub low_spec : {M : Type 1} → statement M
+low_spec = tie.close (tie.spec power-requires sub-result returns)

@@ -10,7 +10,7 @@ use Rattle.bits.proofs.word.push.Tie as tie
 
 -- the bits put behind meet zeros
 
-shl-result : tie.Need-overflow-shl-result
+shl-result : tie.Need-overflow_shl-result
 shl-result c = search rules
 
 low-requires : tie.Need-low-requires
