@@ -71,7 +71,7 @@ def pairs():
     things = {snake(n) for n, thing in names.items() if thing and "-" not in n} | LIBRARY
     out = {}
     for name in names:
-        if name in ("non-members",) or name[0] in "◌-" or name[0].isupper() or any(c in name for c in "◌+*/%^≡≤<≢↔") or "₁" in name:
+        if name in ("non-members", "not-true") or name[0] in "◌-" or name[0].isupper() or any(c in name for c in "◌+*/%^≡≤<≢↔") or "₁" in name:
             continue
         if name in CHOSEN:
             out[name] = CHOSEN[name]

@@ -6,5 +6,8 @@ use Rattle.alphabet.proofs.bases.is_base.Tie as tie
 returns : tie.Need-returns
 returns c = base_told c.args.x (search rules)
 
-pub is-base-spec : {M : Type 1} → statement M
-is-base-spec = tie.close (tie.spec returns)
+pub is_base_spec : {M : Type 1} → statement M
+is_base_spec =
+    tie.close
+    (tie.spec
+    returns)

@@ -23,59 +23,59 @@ past end len now v e same h = go e.1.1
     go (inl a) = inl (omega arith)
     go (inr a) = inr (omega (arith, same))
 
-abbrev invariant-loop : tie.invariant-loop
+abbrev invariant-loop : tie.invariant-loop-v
 invariant-loop fold table₀ end v₀ table v = (fold ≡ true) × (Ends end (length table₀) × FoldedTo table₀ v table)
 
-abbrev decreases-loop : tie.decreases-loop
+abbrev decreases-loop : tie.decreases-loop-v
 decreases-loop fold table₀ end v₀ table v = 0x7b - v
 
-least-requires : tie.Need-least-requires invariant-loop decreases-loop
+least-requires : tie.Need-least-end-requires invariant-loop decreases-loop
 least-requires c κs = search rules
 
-loop-holds : tie.Need-loop-init invariant-loop decreases-loop
+loop-holds : tie.Need-loop-v-init invariant-loop decreases-loop
 loop-holds c =
-    let a = c.before.before.before.args in
-    (c.before.if1.true, (ends c.least.result (length a.table.now) c.least.ensures, fold_none a.table.now))
+    let a = c.args in
+    (c.if-fold.true, (ends c.least-end.result (length a.table.now) c.least-end.ensures, fold_none a.table.now))
 
-sub-table : tie.Need-overflow-sub-table invariant-loop decreases-loop
-sub-table c = omega (arith, c.before.loop.invariant.1.1.from)
+sub-table : tie.Need-overflow_sub-table invariant-loop decreases-loop
+sub-table c = omega (arith, c.loop-v.invariant.1.1.from)
 
-slice-read-table : tie.Need-slice-read-table invariant-loop decreases-loop
-slice-read-table c = let o = c.before.before.loop in omega (arith, o.invariant.1.0.1.0, o.invariant.1.1.long, c.before.loop-test.true)
+slice-read-table : tie.Need-bounds-table-v invariant-loop decreases-loop
+slice-read-table c = let o = c.loop-v in omega (arith, o.invariant.1.0.1.0, o.invariant.1.1.long, c.loop-v-test.true)
 
-slice-write-table : tie.Need-slice-write-table invariant-loop decreases-loop
-slice-write-table c = let o = c.before.before.loop in omega (arith, o.invariant.1.0.1.0, o.invariant.1.1.long, c.before.loop-test.true)
+slice-write-table : tie.Need-bounds-table-v-in-loop-v invariant-loop decreases-loop
+slice-write-table c = let o = c.loop-v in omega (arith, o.invariant.1.0.1.0, o.invariant.1.1.long, c.loop-v-test.true)
 
-add-v : tie.Need-overflow-add-v invariant-loop decreases-loop
+add-v : tie.Need-overflow_step-v invariant-loop decreases-loop
 add-v c = search rules
 
-loop-less : tie.Need-loop-smaller invariant-loop decreases-loop
-loop-less c = let o = c.before.before.loop in omega (arith, o.invariant.1.0.0, c.before.loop-test.true)
+loop-less : tie.Need-loop-v-smaller invariant-loop decreases-loop
+loop-less c = let o = c.loop-v in omega (arith, o.invariant.1.0.0, c.loop-v-test.true)
 
-loop-again : tie.Need-loop-preserved invariant-loop decreases-loop
+loop-again : tie.Need-loop-v-preserved invariant-loop decreases-loop
 loop-again c =
-    let o = c.before.before.loop in
+    let o = c.loop-v in
     let e = o.invariant.1.0 in
-    let t = c.before.loop-test.true in
+    let t = c.loop-v-test.true in
     (o.invariant.0, (e, fold_more _ o.table o.v (omega (arith, e.0, t)) (omega (arith, e.1.0, o.invariant.1.1.long, t)) o.invariant.1.1))
 
-same_length : tie.Need-same-length invariant-loop decreases-loop
-same_length c = c.before.loop.invariant.1.1.long
+same_length : tie.Need-shape_of-table invariant-loop decreases-loop
+same_length c = c.loop-v.invariant.1.1.long
 
-returns : tie.Need-returns invariant-loop decreases-loop
+returns : tie.Need-returns-after-loop-v invariant-loop decreases-loop
 returns c =
-    let o = c.before.loop in
-    let a = c.before.before.before.before.before.args in
-    let all = past c.before.before.least.result (length a.table.now) (length o.table) o.v o.invariant.1.0 o.invariant.1.1.long c.loop-test.false in
+    let o = c.loop-v in
+    let a = c.args in
+    let all = past c.least-end.result (length a.table.now) (length o.table) o.v o.invariant.1.0 o.invariant.1.1.long c.loop-v-test.false in
     fold_done a.table.now o.table o.v all o.invariant.1.1 ∙ sym (ap (λ (f : Bool). folded_entries f a.table.now) o.invariant.0)
 
-returns-2 : tie.Need-returns-2 invariant-loop decreases-loop
+returns-2 : tie.Need-returns-else-fold invariant-loop decreases-loop
 returns-2 c =
-    let a = c.before.before.args in
-    fold_kept a.table.now ∙ sym (ap (λ (f : Bool). folded_entries f a.table.now) c.if1.false)
+    let a = c.args in
+    fold_kept a.table.now ∙ sym (ap (λ (f : Bool). folded_entries f a.table.now) c.if-fold.false)
 
-pub fold-entries-spec : {M : Type 1} → statement M
-fold-entries-spec =
+pub fold_entries_spec : {M : Type 1} → statement M
+fold_entries_spec =
     tie.close
     (tie.spec
     invariant-loop

@@ -7,45 +7,45 @@ use Rattle.alphabet.proofs.Turns.{scan_more}
 use Rattle.alphabet.proofs.guesser.after_eight.Statement.{statement}
 use Rattle.alphabet.proofs.guesser.after_eight.Tie as tie
 
-abbrev invariant-loop : tie.invariant-loop
+abbrev invariant-loop : tie.invariant-loop-j
 invariant-loop masks fold acc text i m₀ j₀ m j = (j ≤ 8) × (masked m (drop (i + j) (folded fold text)) ≡ masked acc (drop i (folded fold text)))
 
-abbrev decreases-loop : tie.decreases-loop
+abbrev decreases-loop : tie.decreases-loop-j
 decreases-loop masks fold acc text i m₀ j₀ m j = 8 - j
 
-loop-holds : tie.Need-loop-init invariant-loop decreases-loop
+loop-holds : tie.Need-loop-j-init invariant-loop decreases-loop
 loop-holds c =
-    let a = c.before.args in
+    let a = c.args in
     (omega arith, ap (λ (n : ℕ). masked a.acc (drop n (folded a.fold a.text.now))) (add-zero a.i))
 
-add-place : tie.Need-overflow-add-place invariant-loop decreases-loop
+add-place : tie.Need-overflow_add-i invariant-loop decreases-loop
 add-place c = search rules
 
-shared-slice-read-place : tie.Need-shared-slice-read-place invariant-loop decreases-loop
+shared-slice-read-place : tie.Need-bounds-text-i invariant-loop decreases-loop
 shared-slice-read-place c = search rules
 
 place-requires : tie.Need-place-requires invariant-loop decreases-loop
 place-requires c κs = search rules
 
-element-copy-out-m : tie.Need-element-copy-out-m invariant-loop decreases-loop
+element-copy-out-m : tie.Need-bounds-masks-place invariant-loop decreases-loop
 element-copy-out-m c = c.place.ensures.1
 
-add-j : tie.Need-overflow-add-j invariant-loop decreases-loop
+add-j : tie.Need-overflow_step-j invariant-loop decreases-loop
 add-j c = search rules
 
-loop-less : tie.Need-loop-smaller invariant-loop decreases-loop
+loop-less : tie.Need-loop-j-smaller invariant-loop decreases-loop
 loop-less c = search rules
 
-loop-again : tie.Need-loop-preserved invariant-loop decreases-loop
+loop-again : tie.Need-loop-j-preserved invariant-loop decreases-loop
 loop-again c =
-    let p = c.before in
-    let t = p.before.before in
-    let h = t.before in
-    let o = h.loop in
-    let s = h.before.before in
+    let p = c in
+    let t = p in
+    let h = t in
+    let o = h.loop-j in
+    let s = h in
     let a = s.args in
     let v = p.place in
-    let here : a.i + o.j < length a.text.now = omega (arith, s.requires.1, t.loop-test.true) in
+    let here : a.i + o.j < length a.text.now = omega (arith, s.requires.1, t.loop-j-test.true) in
     let on : a.i + (o.j + 1) ≡ (a.i + o.j) + 1 = omega arith in (
       omega arith,
       ap (λ (n : ℕ). masked (bit_and o.m (at a.masks.now v.result)) (drop n (folded a.fold a.text.now))) on
@@ -54,13 +54,13 @@ loop-again c =
 
 returns : tie.Need-returns invariant-loop decreases-loop
 returns c =
-    let o = c.before.loop in
-    let a = c.before.before.before.args in
-    let e : a.i + 8 ≡ a.i + o.j = omega (arith, o.invariant.0, c.loop-test.false) in
+    let o = c.loop-j in
+    let a = c.args in
+    let e : a.i + 8 ≡ a.i + o.j = omega (arith, o.invariant.0, c.loop-j-test.false) in
     ap (λ (n : ℕ). masked o.m (drop n (folded a.fold a.text.now))) e ∙ o.invariant.1
 
-pub after-eight-spec : {M : Type 1} → statement M
-after-eight-spec =
+pub after_eight_spec : {M : Type 1} → statement M
+after_eight_spec =
     tie.close
     (tie.spec
     invariant-loop

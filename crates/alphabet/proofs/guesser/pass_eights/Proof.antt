@@ -4,48 +4,48 @@ use Rattle.alphabet.specs.Guess.{masked}
 use Rattle.alphabet.proofs.guesser.pass_eights.Statement.{statement}
 use Rattle.alphabet.proofs.guesser.pass_eights.Tie as tie
 
-abbrev invariant-loop : tie.invariant-loop
+abbrev invariant-loop : tie.invariant-loop-i
 invariant-loop masks fold acc text start end i₀ i = ((start ≤ i) × (i ≤ end)) × (masked acc (drop i (folded fold text)) ≡ masked acc (drop start (folded fold text)))
 
-abbrev decreases-loop : tie.decreases-loop
+abbrev decreases-loop : tie.decreases-loop-i
 decreases-loop masks fold acc text start end i₀ i = end - i
 
-loop-holds : tie.Need-loop-init invariant-loop decreases-loop
-loop-holds c = ((omega arith, c.before.requires.1.0), refl)
+loop-holds : tie.Need-loop-i-init invariant-loop decreases-loop
+loop-holds c = ((omega arith, c.requires.1.0), refl)
 
-sub-loop : tie.Need-overflow-sub-loop invariant-loop decreases-loop
+sub-loop : tie.Need-overflow_sub-end invariant-loop decreases-loop
 sub-loop c = search rules
 
-after-eight-requires : tie.Need-after-eight-requires invariant-loop decreases-loop
+after-eight-requires : tie.Need-after_eight-requires invariant-loop decreases-loop
 after-eight-requires c κs =
-    let s = c.before.before.before in
-    (s.requires.0, omega (arith, c.loop-test.true, s.requires.1.1, c.before.loop.invariant.0.1))
+    let s = c in
+    (s.requires.0, omega (arith, c.loop-i-test.true, s.requires.1.1, c.loop-i.invariant.0.1))
 
-returns : tie.Need-returns invariant-loop decreases-loop
-returns c = c.before.before.before.loop.invariant
+returns : tie.Need-returns-then-after_eight-acc invariant-loop decreases-loop
+returns c = c.loop-i.invariant
 
-add-i : tie.Need-overflow-add-i invariant-loop decreases-loop
+add-i : tie.Need-overflow_add-i invariant-loop decreases-loop
 add-i c = search rules
 
-loop-less : tie.Need-loop-smaller invariant-loop decreases-loop
+loop-less : tie.Need-loop-i-smaller invariant-loop decreases-loop
 loop-less c = search rules
 
-loop-again : tie.Need-loop-preserved invariant-loop decreases-loop
+loop-again : tie.Need-loop-i-preserved invariant-loop decreases-loop
 loop-again c =
-    let t = c.before.before in
-    let l = t.before in
-    let o = l.loop in
-    let a = l.before.before.args in
-    let same : c.before.after-eight.result ≡ a.acc = c.if1.false in (
-      (omega arith, omega (arith, t.loop-test.true)),
-      ap (λ (m : ℕ). masked m (drop (o.i + 8) (folded a.fold a.text.now))) (sym same) ∙ c.before.after-eight.ensures ∙ o.invariant.1,
+    let t = c in
+    let l = t in
+    let o = l.loop-i in
+    let a = l.args in
+    let same : c.after_eight.result ≡ a.acc = c.if-after_eight-acc.false in (
+      (omega arith, omega (arith, t.loop-i-test.true)),
+      ap (λ (m : ℕ). masked m (drop (o.i + 8) (folded a.fold a.text.now))) (sym same) ∙ c.after_eight.ensures ∙ o.invariant.1,
     )
 
-returns-2 : tie.Need-returns-2 invariant-loop decreases-loop
-returns-2 c = c.before.loop.invariant
+returns-2 : tie.Need-returns invariant-loop decreases-loop
+returns-2 c = c.loop-i.invariant
 
-pub pass-eights-spec : {M : Type 1} → statement M
-pass-eights-spec =
+pub pass_eights_spec : {M : Type 1} → statement M
+pass_eights_spec =
     tie.close
     (tie.spec
     invariant-loop

@@ -24,61 +24,61 @@ rest-alike fold choice mask text start e h run =
     ∙ past-bases fold mask text start h run
 
 -- the place after the bases are passed, and the entry
-abbrev entry : tie.After-pass-bases → tie.Start
+abbrev entry : tie.After-pass_bases-start → tie.Start
 entry c = c.before.before
 
-pass-bases-requires : tie.Need-pass-bases-requires
+pass-bases-requires : tie.Need-pass_bases-start-requires
 pass-bases-requires c κs = search rules
 
-returns : tie.Need-returns
+returns : tie.Need-returns-then-sequence-start
 returns c =
-    let b = c.before.pass-bases in
+    let b = c.pass_bases-start in
     let s = entry c.before in
     let a = s.args in
     let text : List ℕ = folded a.fold a.sequence.now in
-    let whole : length text ≤ b.result = omega (arith, c.if1.true, length-folded a.fold a.sequence.now) in
-    scan_done text a.mask b.result whole (past-bases a.fold a.mask a.sequence.now b.result s.pre.1 b.ensures)
+    let whole : length text ≤ b.result = omega (arith, c.if-sequence-start.true, length-folded a.fold a.sequence.now) in
+    scan_done text a.mask b.result whole (past-bases a.fold a.mask a.sequence.now b.result s.requires.1 b.ensures)
 
-sub-scan-chunks : tie.Need-overflow-sub-scan-chunks
+sub-scan-chunks : tie.Need-slice_bounds-scan_chunks-count
 sub-scan-chunks c = search rules
 
-part-scan-chunks-start : tie.Need-slice-bounds-scan-chunks-start
+part-scan-chunks-start : tie.Need-slice_bounds-scan_chunks-start
 part-scan-chunks-start c = search rules
 
-part-scan-chunks-end : tie.Need-slice-bounds-scan-chunks-end
+part-scan-chunks-end : tie.Need-slice_bounds-scan_chunks-end
 part-scan-chunks-end c = search rules
 
-scan-chunks-requires : tie.Need-scan-chunks-requires
+scan-chunks-requires : tie.Need-scan_chunks-requires
 scan-chunks-requires c κs = search rules
 
-returns-2 : tie.Need-returns-2
+returns-2 : tie.Need-returns-then-fold
 returns-2 c =
-    let b = c.before.before.before.before in
-    let a = (entry b).args in
-    let p = b.pass-bases in
-    c.scan-chunks.ensures ∙ rest-alike a.fold true a.mask a.sequence.now p.result (sym c.before.before.if2.true) (entry b).requires.1 p.ensures
+    let b = c in
+    let a = (entry b.before.before.before.before).args in
+    let p = b.pass_bases-start in
+    c.scan_chunks.ensures ∙ rest-alike a.fold true a.mask a.sequence.now p.result (sym c.if-fold.true) (entry b.before.before.before.before).requires.1 p.ensures
 
-sub-scan-chunks-2 : tie.Need-overflow-sub-scan-chunks-2
+sub-scan-chunks-2 : tie.Need-slice_bounds-scan_chunks-count-2
 sub-scan-chunks-2 c = search rules
 
-part-scan-chunks-start-2 : tie.Need-slice-bounds-scan-chunks-start-2
+part-scan-chunks-start-2 : tie.Need-slice_bounds-scan_chunks-start-2
 part-scan-chunks-start-2 c = search rules
 
-part-scan-chunks-end-2 : tie.Need-slice-bounds-scan-chunks-end-2
+part-scan-chunks-end-2 : tie.Need-slice_bounds-scan_chunks-end-2
 part-scan-chunks-end-2 c = search rules
 
-scan-chunks-requires-2 : tie.Need-scan-chunks-requires-2
+scan-chunks-requires-2 : tie.Need-scan_chunks-requires-2
 scan-chunks-requires-2 c κs = search rules
 
-returns-3 : tie.Need-returns-3
+returns-3 : tie.Need-returns
 returns-3 c =
-    let b = c.before.before.before.before in
-    let a = (entry b).args in
-    let p = b.pass-bases in
-    c.scan-chunks2.ensures ∙ rest-alike a.fold false a.mask a.sequence.now p.result (sym c.before.before.if2.false) (entry b).requires.1 p.ensures
+    let b = c in
+    let a = (entry b.before.before.before.before).args in
+    let p = b.pass_bases-start in
+    c.scan_chunks-2.ensures ∙ rest-alike a.fold false a.mask a.sequence.now p.result (sym c.if-fold.false) (entry b.before.before.before.before).requires.1 p.ensures
 
-pub scan-spec : {M : Type 1} → statement M
-scan-spec =
+pub scan_spec : {M : Type 1} → statement M
+scan_spec =
     tie.close
     (tie.spec
     pass-bases-requires

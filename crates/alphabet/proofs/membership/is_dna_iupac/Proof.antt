@@ -6,18 +6,23 @@ use Rattle.alphabet.proofs.membership.is_dna_iupac.Tie as tie
 smaller-requires : tie.Need-smaller-requires
 smaller-requires c κs = search rules
 
-add-wrapping-add-u8 : tie.Need-overflow-add-wrapping-add-u8
+add-wrapping-add-u8 : tie.Need-overflow_add-smaller
 add-wrapping-add-u8 c = search rules
 
-wrapping-add-u8-requires : tie.Need-wrapping-add-u8-requires
+wrapping-add-u8-requires : tie.Need-wrapping_add_u8-y-requires
 wrapping-add-u8-requires c κs = search rules
 
 returns : tie.Need-returns
 returns c =
-    let s = c.before in
-    let x : ℕ = s.before.args.x in
-    ap four_groups (c.wrapping-add-u8.ensures ∙ ap (λ (m : ℕ). (m + 0x3e + x) % 2 ^ 8) s.smaller.ensures) ∙ dna_iupac_told x (search rules)
+    let s = c in
+    let x : ℕ = s.args.x in
+    ap four_groups (c.wrapping_add_u8-y.ensures ∙ ap (λ (m : ℕ). (m + 0x3e + x) % 2 ^ 8) s.smaller.ensures) ∙ dna_iupac_told x (search rules)
 
-pub is-dna-iupac-spec : {M : Type 1} → statement M
-is-dna-iupac-spec =
-    tie.close (tie.spec smaller-requires add-wrapping-add-u8 wrapping-add-u8-requires returns)
+pub is_dna_iupac_spec : {M : Type 1} → statement M
+is_dna_iupac_spec =
+    tie.close
+    (tie.spec
+    smaller-requires
+    add-wrapping-add-u8
+    wrapping-add-u8-requires
+    returns)

@@ -1,7 +1,7 @@
 use mathlib.Core.Path.{◌≡◌, sym, ◌∙◌}
 use mathlib.Core.Bool.{true}
 use native.Mathlib.Omega.{arith}
-use borrow.Author.Tests.{not_true, not-false}
+use borrow.Author.Tests.{not-true, not-false}
 use borrow.Author.Rules.{rules}
 use Rattle.alphabet.specs.declared.kind.Named.TheVariants.{Kind}
 use Rattle.alphabet.specs.Names.{named_at}
@@ -44,7 +44,7 @@ is-fitting-requires c κs = search rules
 returns-2 : tie.Need-returns-2
 returns-2 c =
     let k = kind c.before in
-    state_unfit (call k).args.state _ (named k) (sym c.before.is-fitting.ensures ∙ not_true _ c.if1.true)
+    state_unfit (call k).args.state _ (named k) (sym c.before.is-fitting.ensures ∙ not-true _ c.if1.true)
 
 returns-3 : tie.Need-returns-3
 returns-3 c =

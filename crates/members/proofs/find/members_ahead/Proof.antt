@@ -2,7 +2,7 @@ use mathlib.Core.Path.{◌≡◌, refl, sym, ◌∙◌}
 use mathlib.Core.List.{List}
 use Prim.Native.Nat.{ℕ, ◌-◌}
 use borrow.Author.Rules.{rules}
-use borrow.Author.Tests.{not_true, not-false}
+use borrow.Author.Tests.{not-true, not-false}
 use lib.ListN.{length}
 use Rattle.alphabet.specs.Symbols.{Coding, coding_by}
 use Rattle.members.specs.Members.{Passed}
@@ -55,7 +55,7 @@ returns-2 : tie.Need-returns-2 invariant-loop decreases-loop
 returns-2 c =
     let t = c.before in
     let h = t.before.before.before in
-    passed_stops (coding h) (given h) h.loop.i h.loop.invariant.1 (sym t.takes.ensures ∙ not_true t.takes.result c.if2.true)
+    passed_stops (coding h) (given h) h.loop.i h.loop.invariant.1 (sym t.takes.ensures ∙ not-true t.takes.result c.if2.true)
 
 add-i : tie.Need-overflow-add-i invariant-loop decreases-loop
 add-i c = search rules

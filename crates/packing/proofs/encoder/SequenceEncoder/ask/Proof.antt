@@ -1,7 +1,7 @@
 use mathlib.Core.Path.{◌≡◌, sym, ap, ◌∙◌}
 use mathlib.Core.Bool.{true}
 use Prim.Native.Nat.{ℕ, ◌+◌, ◌≤◌}
-use borrow.Author.Tests.{not_true, not-false}
+use borrow.Author.Tests.{not-true, not-false}
 use borrow.Author.Rules.{rules}
 use lib.ListN.{length, replicate}
 use Rattle.alphabet.specs.Questions.{limit}
@@ -55,7 +55,7 @@ is-sound-requires c κs = search rules
 returns : tie.Need-returns
 returns c =
     let a = (start c.before).args in
-    update_unsound a.self a.piece.now a.room (sym c.before.is_sound.ensures ∙ not_true _ c.if1.true)
+    update_unsound a.self a.piece.now a.room (sym c.before.is_sound.ensures ∙ not-true _ c.if1.true)
 
 due-requires : tie.Need-due-requires
 due-requires c κs = sure c

@@ -1,6 +1,6 @@
 use mathlib.Core.Path.{◌≡◌, sym, ◌∙◌}
 use mathlib.Core.Bool.{true}
-use borrow.Author.Tests.{not_true, not-false}
+use borrow.Author.Tests.{not-true, not-false}
 use borrow.Author.Rules.{rules}
 use Rattle.packing.specs.Encode.{sound_encoder}
 use Rattle.packing.proofs.Ends.{finalize_unsound, finalize_bad, finalize_short, finalize-fine}
@@ -24,7 +24,7 @@ is-sound-requires c κs = search rules
 returns : tie.Need-returns
 returns c =
     let a = c.before.before.args in
-    finalize_unsound a.self a.room (sym c.before.is_sound.ensures ∙ not_true _ c.if1.true)
+    finalize_unsound a.self a.room (sym c.before.is_sound.ensures ∙ not-true _ c.if1.true)
 
 enum-known-first : tie.Need-enum-known-first
 enum-known-first c = search rules

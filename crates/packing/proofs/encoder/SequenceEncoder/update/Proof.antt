@@ -2,7 +2,7 @@ use mathlib.Core.Path.{◌≡◌, sym, ap, ◌∙◌, subst}
 use mathlib.Core.Bool.{true}
 use Prim.Native.Nat.{ℕ, ◌*◌, ◌%◌}
 use native.Mathlib.Omega.{arith}
-use borrow.Author.Tests.{not_true, not-false, eqb-true}
+use borrow.Author.Tests.{not-true, not-false, eqb-true}
 use borrow.Author.Rules.{rules}
 use lib.Dec.{eqb}
 use lib.ListN.{length, replicate}
@@ -85,7 +85,7 @@ returns : tie.Need-returns
 returns c =
     let k = c.before in
     let a = (start k).args in
-    let no' = update_unsound a.self a.piece.now (length a.out.now) (sym k.is_sound.ensures ∙ not_true _ c.if1.true) in
+    let no' = update_unsound a.self a.piece.now (length a.out.now) (sym k.is_sound.ensures ∙ not-true _ c.if1.true) in
     (no', update_kept a.self a.piece.now a.out.now _ _ (sym no'))
 
 due-requires : tie.Need-due-requires

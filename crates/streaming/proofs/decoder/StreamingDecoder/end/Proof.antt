@@ -2,7 +2,7 @@ use mathlib.Core.Path.{◌≡◌, sym, ◌∙◌}
 use mathlib.Core.Bool.{true}
 use native.Mathlib.Omega.{arith}
 use borrow.Author.Rules.{rules}
-use borrow.Author.Tests.{not_true, not-false}
+use borrow.Author.Tests.{not-true, not-false}
 use Rattle.streaming.specs.Stream.{sound_stream}
 use Rattle.streaming.proofs.Closing.{end_unsound, end_due, end_short, end_complete}
 use Rattle.streaming.proofs.decoder.StreamingDecoder.end.Statement.{statement}
@@ -16,7 +16,7 @@ is-sound-requires : tie.Need-is-sound-requires
 is-sound-requires c κs = search rules
 
 returns : tie.Need-returns
-returns c = end_unsound c.before.before.args.self (sym c.before.is_sound.ensures ∙ not_true _ c.if1.true)
+returns c = end_unsound c.before.before.args.self (sym c.before.is_sound.ensures ∙ not-true _ c.if1.true)
 
 returns-2 : tie.Need-returns-2
 returns-2 c =

@@ -1,7 +1,7 @@
 use mathlib.Core.Path.{◌≡◌, sym, ◌∙◌}
 use mathlib.Core.Bool.{true, ◌||◌}
 use borrow.Author.Rules.{rules}
-use borrow.Author.Tests.{not_true, not-false}
+use borrow.Author.Tests.{not-true, not-false}
 use lib.Dec.{eqb, ltb}
 use lib.ListN.{length}
 use Rattle.streaming.specs.Stream.{sound_stream}
@@ -28,7 +28,7 @@ returns : tie.Need-returns
 unfolding Met
 returns c =
     let a = c.before.before.before.before.args in
-    refuses a.self a.source.now a.out.now (sym c.before.is_sound.ensures ∙ not_true _ c.if1.true)
+    refuses a.self a.source.now a.out.now (sym c.before.is_sound.ensures ∙ not-true _ c.if1.true)
 
 can-begin-requires : tie.Need-can-begin-requires
 can-begin-requires c κs = search rules
@@ -38,7 +38,7 @@ unfolding Met
 returns-2 c =
     let first = c.before.before in
     let a = (call first).args in
-    waits a.self a.source.now a.out.now (sound first) (sym c.before.can-begin.ensures ∙ not_true _ c.if2.true)
+    waits a.self a.source.now a.out.now (sound first) (sym c.before.can-begin.ensures ∙ not-true _ c.if2.true)
 
 opened-requires : tie.Need-opened-requires
 opened-requires c κs = (sound c.before.before, begins c)
