@@ -16,7 +16,7 @@ import tempfile
 
 NEED = re.compile(r"tie\.Need-([^\s)(]+)")
 WORD = r"[A-Za-z_µμκ«»][\w'₀-₉«»-]*"
-GENERAL = {"args": "args", "requires": "requires", "pre": "requires", "well-formed": "well_formed", "ranges": "ranges", "lifetimes": "lifetimes", "blocks": "blocks", "opens": "opens"}
+GENERAL = {"args": "args", "requires": "requires", "pre": "requires", "well-formed": "well_formed", "ranges": "ranges", "lifetimes": "lifetimes", "blocks": "blocks", "opens": "opens", "good": "well_formed"}
 
 
 def norm(name):
@@ -240,8 +240,10 @@ class Turner:
                     return text
 
         text = alias(lines)
-        if names:
-            text = re.sub(r"(?<![\w.'-])(" + "|".join(re.escape(n) for n in sorted(names, key=len, reverse=True)) + r") (\(?)(" + WORD + r")((?:\.before)*)(\)?)(?![\w'.-])", reach, text)
+        if names and at:
+            heads = "|".join(re.escape(n) for n in sorted(names, key=len, reverse=True))
+            vars_ = "|".join(re.escape(n) for n in sorted(at, key=len, reverse=True))
+            text = re.sub(r"(?<![\w.'-])(" + heads + r") (\(?)(" + vars_ + r")((?:\.before)*)(\)?)(?![\w'.-])", reach, text)
 
         def chain(m):
             base, comps = m.group(1), m.group(2)[1:].split(".")

@@ -13,11 +13,16 @@ counts false = refl
 takes-requires : tie.Need-takes-requires
 takes-requires c κs = search rules
 
-cast-result : tie.Need-overflow-cast-result
+cast-result : tie.Need-overflow_cast-result
 cast-result c = search rules
 
 returns : tie.Need-returns
 returns c = counts (not c.takes.result) ∙ ap (λ (b : Bool). cond (not b) 1 0) c.takes.ensures
 
-pub stranger-spec : {M : Type 1} → statement M
-stranger-spec = tie.close (tie.spec takes-requires cast-result returns)
+pub stranger_spec : {M : Type 1} → statement M
+stranger_spec =
+    tie.close
+    (tie.spec
+    takes-requires
+    cast-result
+    returns)

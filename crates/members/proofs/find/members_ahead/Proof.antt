@@ -10,15 +10,15 @@ use Rattle.members.proofs.Passing.{passed_one, passed_stops, passed_all}
 use Rattle.members.proofs.find.members_ahead.Statement.{statement}
 use Rattle.members.proofs.find.members_ahead.Tie as tie
 
-abbrev invariant-loop : tie.invariant-loop
+abbrev invariant-loop : tie.invariant-loop-i
 invariant-loop kind fold text n many i₀ i = (n ≡ length text) × Passed (coding_by fold kind) text i
 
-abbrev decreases-loop : tie.decreases-loop
+abbrev decreases-loop : tie.decreases-loop-i
 decreases-loop kind fold text n many i₀ i = n - i
 
 -- the loop's head, and the entry
 abbrev Head : Type 0
-Head = tie.At-loop invariant-loop decreases-loop
+Head = tie.At-loop-i invariant-loop decreases-loop
 
 abbrev start : Head → tie.Start invariant-loop decreases-loop
 start h = h.before.before.before.before.before
@@ -29,54 +29,54 @@ coding h = coding_by (start h).args.fold (start h).args.kind
 abbrev given : Head → List ℕ
 given h = (start h).args.text.now
 
-many-of-requires : tie.Need-many-of-requires invariant-loop decreases-loop
+many-of-requires : tie.Need-many_of-many-requires invariant-loop decreases-loop
 many-of-requires c κs = search rules
 
 -- all was passed many bytes at a test
-returns : tie.Need-returns invariant-loop decreases-loop
+returns : tie.Need-returns-then-n-many invariant-loop decreases-loop
 returns c =
-    let k = c.before in
-    let a = k.before.before.args in
-    passed_all (coding_by a.fold a.kind) a.text.now k.many-of.result c.if1.true k.many-of.ensures
+    let k = c in
+    let a = k.args in
+    passed_all (coding_by a.fold a.kind) a.text.now k.many_of-many.result c.if-n-many.true k.many_of-many.ensures
 
-last-of-requires : tie.Need-last-of-requires invariant-loop decreases-loop
-last-of-requires c κs = c.before.many-of.ensures
+last-of-requires : tie.Need-last_of-i-requires invariant-loop decreases-loop
+last-of-requires c κs = c.many_of-many.ensures
 
-loop-holds : tie.Need-loop-init invariant-loop decreases-loop
-loop-holds c = (refl, c.last_of.ensures)
+loop-holds : tie.Need-loop-i-init invariant-loop decreases-loop
+loop-holds c = (refl, c.last_of-i.ensures)
 
-shared-slice-read-takes : tie.Need-shared-slice-read-takes invariant-loop decreases-loop
+shared-slice-read-takes : tie.Need-bounds-text-i invariant-loop decreases-loop
 shared-slice-read-takes c = search rules
 
 takes-requires : tie.Need-takes-requires invariant-loop decreases-loop
 takes-requires c κs = search rules
 
-returns-2 : tie.Need-returns-2 invariant-loop decreases-loop
+returns-2 : tie.Need-returns-then-not-takes invariant-loop decreases-loop
 returns-2 c =
-    let t = c.before in
-    let h = t.before.before.before in
-    passed_stops (coding h) (given h) h.loop.i h.loop.invariant.1 (sym t.takes.ensures ∙ not-true t.takes.result c.if2.true)
+    let t = c in
+    let h = t in
+    passed_stops (coding h.before.before.before.before) (given h.before.before.before.before) h.loop-i.i h.loop-i.invariant.1 (sym t.takes.ensures ∙ not-true t.takes.result c.if-not-takes.true-raw)
 
-add-i : tie.Need-overflow-add-i invariant-loop decreases-loop
+add-i : tie.Need-overflow_add-i invariant-loop decreases-loop
 add-i c = search rules
 
-loop-less : tie.Need-loop-smaller invariant-loop decreases-loop
+loop-less : tie.Need-loop-i-smaller invariant-loop decreases-loop
 loop-less c = search rules
 
-loop-again : tie.Need-loop-preserved invariant-loop decreases-loop
+loop-again : tie.Need-loop-i-preserved invariant-loop decreases-loop
 loop-again c =
-    let t = c.before in
-    let h = t.before.before.before in
-    let member = sym t.takes.ensures ∙ not-false t.takes.result c.if2.false in
-    (refl, passed_one (coding h) (given h) h.loop.i h.loop.invariant.1 t.before.before.loop-test.true member)
+    let t = c in
+    let h = t in
+    let member = sym t.takes.ensures ∙ not-false t.takes.result c.if-not-takes.false-raw in
+    (refl, passed_one (coding h.before.before.before.before) (given h.before.before.before.before) h.loop-i.i h.loop-i.invariant.1 t.loop-i-test.true member)
 
-returns-3 : tie.Need-returns-3 invariant-loop decreases-loop
+returns-3 : tie.Need-returns invariant-loop decreases-loop
 returns-3 c =
-    let h = c.before in
-    passed_all (coding h) (given h) h.loop.i c.loop-test.false h.loop.invariant.1
+    let h = c in
+    passed_all (coding h.before) (given h.before) h.loop-i.i c.loop-i-test.false h.loop-i.invariant.1
 
-pub members-ahead-spec : {M : Type 1} → statement M
-members-ahead-spec =
+pub members_ahead_spec : {M : Type 1} → statement M
+members_ahead_spec =
     tie.close
     (tie.spec
     invariant-loop
