@@ -58,6 +58,15 @@ class Tree:
             place = self.parent[place]
             seen += 1
 
+    def final(self, place):
+        """The last of the places that an arm was: the others cannot be reached any more."""
+        arm = self.arm.get(place)
+        if arm:
+            for n, p in self.parent.items():
+                if p == place and self.arm.get(n) and self.arm[n][0] == arm[0] and self.arm[n][1] == arm[1] + 1:
+                    return self.final(n)
+        return place
+
     def distance(self, below, above):
         k, place = 0, below
         while place is not None and k < 500:
@@ -80,6 +89,12 @@ class Tree:
             return [word, names[n - 1]] + rest[n + 1 :]
         return rest
 
+    def found(self, place, step):
+        for p in self.line(place):
+            if self.step[p][0] == norm(step):
+                return self.callee[p]
+        return None
+
     def turned(self, place, comps):
         """The components behind the walk back: a step, its fields; or None."""
         s = norm(comps[0])
@@ -94,6 +109,9 @@ class Tree:
                 for field, step, path in arm[2]:
                     if norm(step) == s and path and [norm(x) for x in comps[1 : 1 + len(path)]] == [norm(x) for x in path]:
                         return [arm[0], field] + comps[1 + len(path) :]
+                for field, step, path in arm[2]:
+                    if norm(step) == s and not path and len(comps) > 1:
+                        return [arm[0], field] + comps[1:]
             if self.step[p][0] == s:
                 new = self.step[p][1]
                 rest = comps[1:]
@@ -130,19 +148,20 @@ class Turner:
     def place_of(self, text):
         m = re.search(r"tie\.((?:After|At|In|Then|Else|Case|Start|Untold|Join|Joined|Arm)[^\s)(]*)", text)
         if m and norm(m.group(1)) in self.tree.parent:
-            return norm(m.group(1))
+            return self.tree.final(norm(m.group(1)))
         w = text.strip().split(" ")[0].strip("()")
         return self.places.get(w)
 
     def types(self, text):
         def place(m):
             w = norm(m.group(1))
-            return "tie." + self.tree.new[w] if w in self.tree.new else m.group(0)
+            return "tie." + self.tree.new[self.tree.final(w)] if w in self.tree.new else m.group(0)
 
         text = re.sub(r"tie\.((?:After|At|In|Then|Else|Case|Start|Untold|Join|Joined|Arm)[^\s)(]*)", place, text)
         for (old, new), _ in self.t["loops"]:
             for kind in ("invariant", "decreases"):
                 text = re.sub(r"tie\." + kind + "-" + re.escape(old) + r"(?![\w'-])", f"tie.{kind}-{new}", text)
+            text = re.sub(r"tie\.Left-" + re.escape(old) + r"(?![\w'-])", f"tie.Left-{new}", text)
         return text
 
     def signature(self, decl):
@@ -247,6 +266,8 @@ class Turner:
 
         def chain(m):
             base, comps = m.group(1), m.group(2)[1:].split(".")
+            if base in steps and comps[0] in ("new", "auto", "kept", "last"):
+                return base + "." + ".".join(tree.by_name(comps, steps[base]))
             if base not in at:
                 return m.group(0)
             n = 0
@@ -255,6 +276,12 @@ class Turner:
             if n == len(comps):
                 return m.group(0)
             new = tree.turned(at[base], comps[n:])
+            if new is not None and len(comps) == n + 1:
+                last = tree.found(at[base], comps[n])
+                before = m.string[: m.start()].rsplit("\n", 1)[-1]
+                let = re.search(r"let (" + WORD + r") = $", before)
+                if let and last:
+                    steps[let.group(1)] = last
             if new is None:
                 if comps[n] not in ("0", "1"):
                     self.said.append("no step " + m.group(0))
@@ -305,12 +332,16 @@ class Turner:
                     continue
                 new, place = self.needs[hit]
                 answers[new] = local
+                self.helpers[local] = ([place], None)
                 head, rest = decl.split("\n", 1)
                 head = NEED.sub("tie.Need-" + new, head)
                 rest = self.body(rest, {"c": place})
                 out.append(head + "\n" + rest)
                 continue
-            if decl.startswith(("use ", "--", "module ")):
+            if decl.startswith("module "):
+                out.append(self.module(decl))
+                continue
+            if decl.startswith(("use ", "--")):
                 out.append(decl)
                 continue
             if re.match(r"(?:abbrev )?(?:pub )?" + WORD + r"\s*:\s*Type 0\n", decl) and self.place_of(decl.split("\n", 1)[1].split("=", 1)[-1]):
@@ -348,6 +379,39 @@ class Turner:
                 continue
             out.append(self.types(decl))
         return "\n".join(out), self.said
+
+    def module(self, decl):
+        """A module over a place: what it defines is a helper that takes the place first, and within it stands by itself."""
+        head, rest = decl.split("\n", 1)
+        at = {}
+        for vs, ty in re.findall(r"\(([^():]*) : ([^()]*(?:\([^()]*\)[^()]*)*)\)", head):
+            for v in vs.split():
+                if self.place_of(ty):
+                    at[v] = self.place_of(ty)
+        out = [self.types(head)]
+        inner = re.split(r"(?m)^(?=  (?:abbrev |pub )*" + WORD + r"\s*:)", rest)
+        for d in inner:
+            m = re.match(r"  (?:abbrev |pub )*(" + WORD + r")\s*:\s*(.*)", d)
+            if m and at:
+                result = self.place_of(m.group(2)) if re.match(r"tie\.|" + WORD + r"$", m.group(2)) else None
+                walk = re.search(r"=\s*(" + WORD + r")((?:\.before)+)(?=\s*$)", d)
+                if result and walk and walk.group(1) in at:
+                    k = self.tree.distance(at[walk.group(1)], result)
+                    if k is not None:
+                        d = d[: walk.start()] + "= " + walk.group(1) + ".before" * k + d[walk.end() :]
+                        d = self.types(d)
+                        out.append(d)
+                        self.helpers[m.group(1)] = (list(at.values()), result)
+                        at[m.group(1)] = result
+                        continue
+                d = self.types(self.body(d, at))
+                self.helpers[m.group(1)] = (list(at.values()), result)
+                if result:
+                    at[m.group(1)] = result
+            else:
+                d = self.types(self.body(d, at))
+            out.append(d)
+        return out[0] + "\n" + "".join(out[1:])
 
     def closing(self, decl, answers):
         f = self.name
@@ -393,6 +457,11 @@ def main():
         with open(before, encoding="utf-8") as f:
             old = f.read()
         text = re.sub(r"\.well-formed", ".well_formed", text)
+        text = re.sub(r"(?<=\w)\.pre(?![\w'-])", ".requires", text)
+        text = re.sub(r"((?:-test|\bif\d+))\.taken(?![\w'-])", r"\1.true", text)
+        text = re.sub(r"((?:-test|\bif\d+))\.left(?![\w'-])", r"\1.false", text)
+        text = re.sub(r"\.(\w+)_lem(?![\w'-])", lambda m: "." + m.group(1).replace("_", "-"), text)
+        text = re.sub(r"(\.args\.)([a-z]+)-([a-z]+)(?![\w'-])", r"\1\2_\3", text)
         text = re.sub(r"(?<=\w)\.inv(?![\w'-])", ".invariant", text)
         fresh, said = Turner(t, path[-1]).turn(text, old)
         for s in said:

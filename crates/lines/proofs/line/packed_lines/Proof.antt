@@ -19,8 +19,8 @@ use Rattle.lines.proofs.line.packed_lines.Statement.{statement}
 use Rattle.lines.proofs.line.packed_lines.Tie as tie
 
 -- where name and digits are known: what each is, how long the lines are, and the parts that are put
-module _ (b : tie.After-digits) where
-  abbrev named : tie.After-display-name
+module _ (b : tie.After-digits-1) where
+  abbrev named : tie.After-display_name-name
   named = b.before.before.before
 
   abbrev start : tie.Start
@@ -39,19 +39,19 @@ module _ (b : tie.After-digits) where
   memory = start.args.out.now
 
   abbrev name : Name
-  name = named.display-name.result
+  name = named.display_name-name.result
 
   abbrev digits : List ℕ
-  digits = b.before.decimal.result.bytes
+  digits = b.decimal-number.result.bytes
 
   abbrev from : ℕ
-  from = b.before.decimal.result.from
+  from = b.decimal-number.result.from
 
   is_name : name ≡ name_of kind
-  is_name = named.display-name.ensures
+  is_name = named.display_name-name.ensures
 
   is-spelt : Spelt count digits from
-  is-spelt = b.before.decimal.ensures
+  is-spelt = b.decimal-number.ensures
 
   whole_length : length (packed_lines_of kind count packed) ≡ name.len + (20 - from) + 3 + 2 * length packed
   whole_length = packed-length kind name is_name count digits from is-spelt packed
@@ -72,118 +72,118 @@ module _ (b : tie.After-digits) where
   short = name_short kind name is_name
 
 -- where they fit
-room : (e : tie.Else2) → let b = e.before.before in (name b).len + (20 - from b) + 3 + 2 * length (packed b) ≤ length (memory b)
-room e = omega (arith, e.if2.false, e.before.if1.false)
+room : (e : tie.Else-out-plain-2) → let b = e in (name b.before.before).len + (20 - from b.before.before) + 3 + 2 * length (packed b.before.before) ≤ length (memory b.before.before)
+room e = omega (arith, e.if-out-plain-2.false, e.if-out-plain.false)
 
 -- where the name's line was put
-module _ (p : tie.After-put-line) where
-  abbrev fitting : tie.Else2
+module _ (p : tie.After-put_line-second) where
+  abbrev fitting : tie.Else-out-plain-2
   fitting = p.before.before.before
 
-  abbrev known : tie.After-digits
+  abbrev known : tie.After-digits-1
   known = fitting.before.before
 
-display-name-requires : tie.Need-display-name-requires
+display-name-requires : tie.Need-display_name-name-requires
 display-name-requires c κs = search rules
 
-decimal-requires : tie.Need-decimal-requires
+decimal-requires : tie.Need-decimal-number-requires
 decimal-requires c κs = search rules
 
-sub-plain : tie.Need-overflow-sub-plain
+sub-plain : tie.Need-overflow_sub-plain
 sub-plain c = (is-spelt c).within
 
-add-plain : tie.Need-overflow-add-plain
+add-plain : tie.Need-overflow_add-plain
 add-plain c = omega (arith, short c)
 
-add-plain-2 : tie.Need-overflow-add-plain-2
+add-plain-2 : tie.Need-overflow_add-plain-2
 add-plain-2 c = omega (arith, short c)
 
-returns : tie.Need-returns
+returns : tie.Need-returns-then-out-plain
 returns c =
-    let b = c.before in
-    put_short (packed_lines_of (kind b) (count b) (packed b)) (memory b) (omega (arith, c.if1.true, whole_length b))
+    let b = c in
+    put_short (packed_lines_of (kind b.before) (count b.before) (packed b.before)) (memory b.before) (omega (arith, c.if-out-plain.true, whole_length b.before))
 
-sub-if2 : tie.Need-overflow-sub-if2
+sub-if2 : tie.Need-overflow_sub-out
 sub-if2 c = search rules
 
-returns-2 : tie.Need-returns-2
+returns-2 : tie.Need-returns-then-out-plain-2
 returns-2 c =
-    let b = c.before.before in
-    put_short (packed_lines_of (kind b) (count b) (packed b)) (memory b) (omega (arith, c.if2.true, c.before.if1.false, whole_length b))
+    let b = c in
+    put_short (packed_lines_of (kind b.before.before) (count b.before.before) (packed b.before.before)) (memory b.before.before) (omega (arith, c.if-out-plain-2.true, c.if-out-plain.false, whole_length b.before.before))
 
-array-share-prefix-letters : tie.Need-array-share-prefix-letters
+array-share-prefix-letters : tie.Need-slice_bounds-letters-end
 array-share-prefix-letters c =
-    let b = c.before.before in
-    name_within (name b) (kind b) (is_name b)
+    let b = c in
+    name_within (name b.before.before) (kind b.before.before) (is_name b.before.before)
 
-slice-aggregate-put-line : tie.Need-slice-aggregate-put-line
+slice-aggregate-put-line : tie.Need-slice_bounds-put_line-end
 slice-aggregate-put-line c =
-    let b = c.before.before.before in
-    sym (length-take-le (name b).len (name b).bytes (name_within (name b) (kind b) (is_name b)))
+    let b = c in
+    sym (length-take-le (name b.before.before.before).len (name b.before.before.before).bytes (name_within (name b.before.before.before) (kind b.before.before.before) (is_name b.before.before.before)))
 
-put-line-requires : tie.Need-put-line-requires
+put-line-requires : tie.Need-put_line-second-requires
 put-line-requires c κs = omega (arith, room c.before.before, first-length c.before.before.before.before)
 
-sub-put-line : tie.Need-overflow-sub-put-line
+sub-put-line : tie.Need-slice_bounds-put_line-count
 sub-put-line c = (is-spelt (known c.before.before)).within
 
-part-put-line-start : tie.Need-slice-bounds-put-line-start
-part-put-line-start c = (is-spelt (known c.before.before.before)).within
+part-put-line-start : tie.Need-slice_bounds-put_line-start
+part-put-line-start c = (is-spelt (known c.before.before)).within
 
-part-put-line-end : tie.Need-slice-bounds-put-line-end
+part-put-line-end : tie.Need-slice_bounds-put_line-end-2
 part-put-line-end c = search rules
 
-put-line-requires-2 : tie.Need-put-line-requires-2
+put-line-requires-2 : tie.Need-put_line-third-requires
 put-line-requires-2 c κs =
-    let p = c.before.before.before.before.before in
-    omega (arith, room (fitting p), first-length (known p), second-length (known p), p.put-line.ensures.0, p.put-line.auto.1.1.0)
+    let p = c in
+    omega (arith, room (fitting p.before.before.before.before), first-length (known p.before.before.before.before), second-length (known p.before.before.before.before), p.put_line-second.ensures.0, p.put_line-second.auto.out)
 
 -- where the count's line was put: how much memory is left
-module _ (q : tie.After-put-line2) where
-  abbrev first : tie.After-put-line
+module _ (q : tie.After-put_line-third) where
+  abbrev first : tie.After-put_line-second
   first =
-      let lent = q.before.before.before in
+      let lent = q in
       lent.before.before.before
 
-  left_over : q.put-line2.result + 2 * length (packed (known first)) + 1 ≤ length q.put-line2.last.1.1.0
+  left_over : q.put_line-third.result + 2 * length (packed (known first)) + 1 ≤ length q.put_line-third.new.out
   left_over =
-      let p = first.put-line in
+      let p = first.put_line-second in
       let b = known first in
-      let l = q.put-line2 in
-      omega (arith, room (fitting first), first-length b, second-length b, p.ensures.0, p.kept.1.1.0, l.ensures.0, l.kept.1.1.0)
+      let l = q.put_line-third in
+      omega (arith, room (fitting first), first-length b, second-length b, p.ensures.0, p.auto.out, l.ensures.0, l.auto.out)
 
-put-hex-requires : tie.Need-put-hex-requires
+put-hex-requires : tie.Need-put_hex-end-requires
 put-hex-requires c κs =
-    let q = c.before.before.before in
-    omega (arith, left_over q, hex-length (packed (known (first q))))
+    let q = c in
+    omega (arith, left_over q.before.before.before, hex-length (packed (known (first q.before.before.before))))
 
-put-end-requires : tie.Need-put-end-requires
+put-end-requires : tie.Need-put_end-requires
 put-end-requires c κs =
-    let h = c.before.before.before in
-    let q = h.before.before.before.before in
-    omega (arith, left_over q, hex-length (packed (known (first q))), h.put-hex.ensures.0, h.put-hex.auto.1.1.0)
+    let h = c in
+    let q = h in
+    omega (arith, left_over q.before.before.before.before.before.before.before, hex-length (packed (known (first q.before.before.before.before.before.before.before))), h.put_hex-end.ensures.0, h.put_hex-end.auto.out)
 
-same_length : tie.Need-same-length
+same_length : tie.Need-shape_of-out
 same_length c = search rules
 
-returns-3 : tie.Need-returns-3
+returns-3 : tie.Need-returns
 returns-3 c =
-    let z = c.before.before.put-end in
-    let lent = c.before.before.before.before in
-    let hexed = lent.before.before in
-    let q = hexed.before.before.before.before in
-    let h = hexed.put-hex in
-    let p2 = q.put-line2 in
-    let p = (first q).put-line in
-    let e = fitting (first q) in
-    let b = known (first q) in
+    let z = c.put_end in
+    let lent = c in
+    let hexed = lent in
+    let q = hexed in
+    let h = hexed.put_hex-end in
+    let p2 = q.put_line-third in
+    let p = (first q.before.before.before.before.before.before.before.before.before.before).put_line-second in
+    let e = fitting (first q.before.before.before.before.before.before.before.before.before.before) in
+    let b = known (first q.before.before.before.before.before.before.before.before.before.before) in
     packed-made (kind b) (name b) (is_name b) (count b) (digits b) (from b) (is-spelt b) (packed b) (memory b)
-    p.last.1.1.0 p2.new.1.1.0 h.new.1.1.0 z.new.1.0 _ _ p.result p2.result h.result z.result (room e)
+    p.last.1.1.0 p2.new.out h.new.out z.new.out _ _ p.result p2.result h.result z.result (room e)
     (part_name (kind b) (name b) (is_name b)) p.ensures.0 p.ensures.1 (second b) p2.ensures.0 p2.ensures.1
     h.ensures.0 h.ensures.1 z.ensures.0 z.ensures.1
 
-pub packed-lines-spec : {M : Type 1} → statement M
-packed-lines-spec =
+pub packed_lines_spec : {M : Type 1} → statement M
+packed_lines_spec =
     tie.close
     (tie.spec
     display-name-requires

@@ -16,7 +16,7 @@ use Rattle.lines.proofs.line.refused_line.Statement.{statement}
 use Rattle.lines.proofs.line.refused_line.Tie as tie
 
 -- where the digits are known: what they are, and how long the line is
-module _ (d : tie.After-decimal) where
+module _ (d : tie.After-decimal-number) where
   abbrev start : tie.Start
   start = d.before.before.before
 
@@ -27,19 +27,19 @@ module _ (d : tie.After-decimal) where
   memory = start.args.out.now
 
   abbrev number : ℕ
-  number = d.before.number.result
+  number = d.number.result
 
   abbrev digits : List ℕ
-  digits = d.decimal.result.bytes
+  digits = d.decimal-number.result.bytes
 
   abbrev from : ℕ
-  from = d.decimal.result.from
+  from = d.decimal-number.result.from
 
   is_number : number ≡ number_in (refusal_reply refusal)
-  is_number = d.before.number.ensures
+  is_number = d.number.ensures
 
   is-spelt : Spelt number digits from
-  is-spelt = d.decimal.ensures
+  is-spelt = d.decimal-number.ensures
 
   whole_length : length (refused_line_of refusal) ≡ 9 + (20 - from)
   whole_length = refused-length refusal number digits from is_number is-spelt
@@ -54,61 +54,58 @@ module _ (d : tie.After-decimal) where
 number-requires : tie.Need-number-requires
 number-requires c κs = search rules
 
-cast-decimal : tie.Need-overflow-cast-decimal
+cast-decimal : tie.Need-overflow_cast-number
 cast-decimal c = search rules
 
-decimal-requires : tie.Need-decimal-requires
+decimal-requires : tie.Need-decimal-number-requires
 decimal-requires c κs = search rules
 
-sub-if1 : tie.Need-overflow-sub-if1
-sub-if1 c = c.before.decimal.ensures.within
+sub-if1 : tie.Need-overflow_sub-from
+sub-if1 c = c.decimal-number.ensures.within
 
-add-if1 : tie.Need-overflow-add-if1
+add-if1 : tie.Need-overflow_add-from
 add-if1 c = search rules
 
-returns : tie.Need-returns
+returns : tie.Need-returns-then-out-from
 returns c =
-    let d = c.before.before in
-    put_short (refused_line_of (refusal d)) (memory d) (omega (arith, c.if1.true, whole_length d))
+    let d = c in
+    put_short (refused_line_of (refusal d.before.before)) (memory d.before.before) (omega (arith, c.if-out-from.true, whole_length d.before.before))
 
-slice-aggregate-put-text : tie.Need-slice-aggregate-put-text
-slice-aggregate-put-text c = search rules
-
-put-text-requires : tie.Need-put-text-requires
+put-text-requires : tie.Need-put_text-at-requires
 put-text-requires c κs = search rules
 
-sub-put-line : tie.Need-overflow-sub-put-line
+sub-put-line : tie.Need-slice_bounds-put_line-count
 sub-put-line c = search rules
 
-part-put-line-start : tie.Need-slice-bounds-put-line-start
+part-put-line-start : tie.Need-slice_bounds-put_line-start
 part-put-line-start c = search rules
 
-part-put-line-end : tie.Need-slice-bounds-put-line-end
+part-put-line-end : tie.Need-slice_bounds-put_line-end
 part-put-line-end c = search rules
 
-put-line-requires : tie.Need-put-line-requires
+put-line-requires : tie.Need-put_line-requires
 put-line-requires c κs =
-    let w = c.before.before.before.before.before in
-    let e = w.before.before.before in
-    omega (arith, w.put-text.ensures.0, w.put-text.auto.1.1.0, e.if1.false, part_length e.before.before)
+    let w = c in
+    let e = w in
+    omega (arith, w.put_text-at.ensures.0, w.put_text-at.auto.out, e.if-out-from.false, part_length e.before.before.before.before.before.before.before.before.before.before)
 
-same_length : tie.Need-same-length
+same_length : tie.Need-shape_of-out
 same_length c = search rules
 
-returns-2 : tie.Need-returns-2
+returns-2 : tie.Need-returns
 unfolding bytes_of
 returns-2 c =
-    let l = c.before.before.put-line in
-    let lent = c.before.before.before.before in
-    let w = lent.before.before.before.before in
-    let t = w.put-text in
-    let e = w.before.before.before in
-    let d = e.before.before in
-    refused-made (refusal d) (number d) (digits d) (from d) (is_number d) (is-spelt d) (memory d) t.new.1.1.0 l.new.1.1.0 _
-    t.result l.result e.if1.false t.ensures.0 t.ensures.1 (part d) l.ensures.0 l.ensures.1
+    let l = c.put_line in
+    let lent = c in
+    let w = lent in
+    let t = w.put_text-at in
+    let e = w in
+    let d = e in
+    refused-made (refusal d.before.before.before.before.before.before.before.before.before.before.before.before.before) (number d.before.before.before.before.before.before.before.before.before.before.before.before.before) (digits d.before.before.before.before.before.before.before.before.before.before.before.before.before) (from d.before.before.before.before.before.before.before.before.before.before.before.before.before) (is_number d.before.before.before.before.before.before.before.before.before.before.before.before.before) (is-spelt d.before.before.before.before.before.before.before.before.before.before.before.before.before) (memory d.before.before.before.before.before.before.before.before.before.before.before.before.before) t.new.out l.new.out _
+    t.result l.result e.if-out-from.false t.ensures.0 t.ensures.1 (part d.before.before.before.before.before.before.before.before.before.before.before.before.before) l.ensures.0 l.ensures.1
 
-pub refused-line-spec : {M : Type 1} → statement M
-refused-line-spec =
+pub refused_line_spec : {M : Type 1} → statement M
+refused_line_spec =
     tie.close
     (tie.spec
     number-requires
@@ -117,7 +114,6 @@ refused-line-spec =
     sub-if1
     add-if1
     returns
-    slice-aggregate-put-text
     put-text-requires
     sub-put-line
     part-put-line-start

@@ -8,55 +8,55 @@ use Rattle.packing.proofs.encoder.is_sound_bad.Statement.{statement}
 use Rattle.packing.proofs.encoder.is_sound_bad.Tie as tie
 
 -- where the byte is searched, the first non-member is known, and the entry
-abbrev known : tie.After-members-ahead → tie.After-first
-known t = t.before.before.before
+abbrev known : tie.After-members_ahead → tie.In-At
+known t = t.before.before
 
-abbrev coding_of : tie.After-members-ahead → Coding
-coding_of t = let a = (known t).before.before.args in coding_by a.fold a.kind
+abbrev coding_of : tie.After-members_ahead → Coding
+coding_of t = let a = (known t).args in coding_by a.fold a.kind
 
 -- what the search tells of the byte
-member : (t : tie.Then1) → (coding_of t.before).member (known t.before).first.given.0.1.0 ≡ true
-member t = alone_member (coding_of t.before) _ _ t.before.members-ahead.ensures t.if1.true
+member : (t : tie.Then-members_ahead-eq1) → (coding_of t.before).member (known t.before).in-At.byte ≡ true
+member t = alone_member (coding_of t.before) _ _ t.members_ahead.ensures t.if-members_ahead-eq1.true
 
-stranger : (e : tie.Else1) → (coding_of e.before).member (known e.before).first.given.0.1.0 ≡ false
-stranger e = alone_stranger (coding_of e.before) _ _ e.before.members-ahead.ensures e.if1.false
+stranger : (e : tie.Else-members_ahead-eq1) → (coding_of e.before).member (known e.before).in-At.byte ≡ false
+stranger e = alone_stranger (coding_of e.before) _ _ e.members_ahead.ensures e.if-members_ahead-eq1.false
 
-enum_told : tie.Need-enum-told
+enum_told : tie.Need-enum_told-1
 enum_told c = search rules
 
-enum-known-first : tie.Need-enum-known-first
+enum-known-first : tie.Need-enum_known-first
 enum-known-first c = search rules
 
-slice-aggregate-members-ahead : tie.Need-slice-aggregate-members-ahead
+slice-aggregate-members-ahead : tie.Need-slice_bounds-members_ahead-end
 slice-aggregate-members-ahead c = search rules
 
-members-ahead-requires : tie.Need-members-ahead-requires
+members-ahead-requires : tie.Need-members_ahead-requires
 members-ahead-requires c κs = search rules
 
-returns : tie.Need-returns
-returns c = sound_at_member _ _ _ _ _ (known c.before).first.given.1 (member c)
+returns : tie.Need-returns-then-members_ahead-eq1
+returns c = sound_at_member (coding_of c.before) _ _ _ _ (known c.before).in-At.is (member c)
 
-returns-2 : tie.Need-returns-2
-returns-2 c = sound_at_unseen _ _ _ _ _ (known c.before.before).first.given.1 (stranger c.before) c.if2.true
+returns-2 : tie.Need-returns-then-seen-position
+returns-2 c = sound_at_unseen (coding_of c.before.before) _ _ _ _ (known c.before.before).in-At.is (stranger c.before) c.if-seen-position.true
 
-returns-3 : tie.Need-returns-3
+returns-3 : tie.Need-returns-then-count-eq0
 returns-3 c =
-    let e = c.before.before in
-    sound_at_zero _ _ _ _ _ (known e.before).first.given.1 (stranger e) c.before.if2.false c.if3.true
+    let e = c in
+    sound_at_zero (coding_of e.before.before.before) _ _ _ _ (known e.before.before.before).in-At.is (stranger e.before.before) c.if-seen-position.false c.if-count-eq0.true
 
-sub-result : tie.Need-overflow-sub-result
+sub-result : tie.Need-overflow_sub-result
 sub-result c = search rules
 
-returns-4 : tie.Need-returns-4
-returns-4 c = sound_none _ _ _ c.enum_told.given.1
+returns-4 : tie.Need-returns-in-Nothing
+returns-4 c = sound_none (coding_by c.args.fold c.args.kind) _ _ c.in-Nothing.is
 
-returns-5 : tie.Need-returns-5
+returns-5 : tie.Need-returns-else-count-eq0
 returns-5 c =
-    let e = c.before.before in
-    sound_at_some _ _ _ _ _ (known e.before).first.given.1 (stranger e) c.before.if2.false c.if3.false
+    let e = c in
+    sound_at_some (coding_of e.before.before.before) _ _ _ _ (known e.before.before.before).in-At.is (stranger e.before.before) c.if-seen-position.false c.if-count-eq0.false
 
-pub is-sound-bad-spec : {M : Type 1} → statement M
-is-sound-bad-spec =
+pub is_sound_bad_spec : {M : Type 1} → statement M
+is_sound_bad_spec =
     tie.close
     (tie.spec
     enum_told

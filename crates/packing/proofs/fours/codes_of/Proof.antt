@@ -12,59 +12,59 @@ use Rattle.packing.specs.Encode.{digit_of}
 use Rattle.packing.proofs.fours.codes_of.Statement.{statement}
 use Rattle.packing.proofs.fours.codes_of.Tie as tie
 
-abbrev invariant-loop : tie.invariant-loop
+abbrev invariant-loop : tie.invariant-loop-j
 invariant-loop fold clean text i codes₀ j₀ codes j =
     (j ≤ 64) × (length codes ≡ 64) × ((k : ℕ) → k < j → at codes k ≡ digit_of (coding_by fold Dna2bit) (at text (i + k)))
 
-abbrev decreases-loop : tie.decreases-loop
+abbrev decreases-loop : tie.decreases-loop-j
 decreases-loop fold clean text i codes₀ j₀ codes j = 64 - j
 
-loop-holds : tie.Need-loop-init invariant-loop decreases-loop
+loop-holds : tie.Need-loop-j-init invariant-loop decreases-loop
 loop-holds c = (search rules, search rules, λ k h. absurd (not-suc-le-zero h))
 
-add-digit : tie.Need-overflow-add-digit invariant-loop decreases-loop
+add-digit : tie.Need-overflow_add-i invariant-loop decreases-loop
 add-digit c = search rules
 
-shared-slice-read-digit : tie.Need-shared-slice-read-digit invariant-loop decreases-loop
+shared-slice-read-digit : tie.Need-bounds-text-i invariant-loop decreases-loop
 shared-slice-read-digit c = search rules
 
 digit-requires : tie.Need-digit-requires invariant-loop decreases-loop
 digit-requires c κs =
-    let h = c.before.before in
-    let s = h.before.before in
-    λ e. s.requires.1 e (s.args.i + h.loop.j) (omega (arith, s.requires.0, c.before.loop-test.true))
+    let h = c in
+    let s = h in
+    λ e. s.requires.1 e (s.args.i + h.loop-j.j) (omega (arith, s.requires.0, c.loop-j-test.true))
 
-array-write-codes : tie.Need-array-write-codes invariant-loop decreases-loop
+array-write-codes : tie.Need-bounds-codes-j invariant-loop decreases-loop
 array-write-codes c = search rules
 
-add-j : tie.Need-overflow-add-j invariant-loop decreases-loop
+add-j : tie.Need-overflow_step-j invariant-loop decreases-loop
 add-j c = search rules
 
-loop-less : tie.Need-loop-smaller invariant-loop decreases-loop
+loop-less : tie.Need-loop-j-smaller invariant-loop decreases-loop
 loop-less c = search rules
 
-loop-again : tie.Need-loop-preserved invariant-loop decreases-loop
+loop-again : tie.Need-loop-j-preserved invariant-loop decreases-loop
 loop-again c =
-    let h = c.before.before.before in
-    let o = h.loop in
-    let a = h.before.before.args in
+    let h = c in
+    let o = h.loop-j in
+    let a = h.args in
     let f : ℕ → ℕ = λ k. digit_of (coding_by a.fold Dna2bit) (at a.text.now (a.i + k)) in (
       search rules,
       simp length-set o.invariant.1,
       subst (λ (x : ℕ). (k : ℕ) → k < o.j + 1 → at (set o.codes o.j x) k ≡ f k) (sym c.digit.ensures)
-          (front_more f 0 o.codes o.j (omega (arith, c.before.before.loop-test.true, o.invariant.1)) o.invariant.2),
+          (front_more f 0 o.codes o.j (omega (arith, c.loop-j-test.true, o.invariant.1)) o.invariant.2),
     )
 
 returns : tie.Need-returns invariant-loop decreases-loop
 returns c =
-    let h = c.before in
-    let o = h.loop in
-    let a = h.before.before.args in
+    let h = c in
+    let o = h.loop-j in
+    let a = h.args in
     is_tabulate 64 (λ k. digit_of (coding_by a.fold Dna2bit) (at a.text.now (a.i + k))) 0 o.codes o.invariant.1
-    (λ k l. o.invariant.2 k (omega (arith, c.loop-test.false)))
+    (λ k l. o.invariant.2 k (omega (arith, c.loop-j-test.false)))
 
-pub codes-of-spec : {M : Type 1} → statement M
-codes-of-spec =
+pub codes_of_spec : {M : Type 1} → statement M
+codes_of_spec =
     tie.close
     (tie.spec
     invariant-loop

@@ -10,14 +10,14 @@ use Rattle.packing.proofs.fours.digit.Tie as tie
 code-requires : tie.Need-code-requires
 code-requires c κs = search rules
 
-returns : tie.Need-returns
+returns : tie.Need-returns-then-clean
 returns c =
-    let t = c.before in
-    let s = t.before in
+    let t = c in
+    let s = t in
     let a = s.args in
-    c.code.ensures ∙ member_made a.fold a.x (omega (arith, s.well-formed)) (s.requires t.if1.true)
+    c.code.ensures ∙ member_made a.fold a.x (omega (arith, s.well_formed)) (s.requires t.if-clean.true)
 
-telling-bits-requires : tie.Need-telling-bits-requires
+telling-bits-requires : tie.Need-telling_bits-requires
 telling-bits-requires c κs = search rules
 
 tame-requires : tie.Need-tame-requires
@@ -26,14 +26,22 @@ tame-requires c κs = search rules
 code-requires-2 : tie.Need-code-requires-2
 code-requires-2 c κs = search rules
 
-returns-2 : tie.Need-returns-2
+returns-2 : tie.Need-returns
 returns-2 c =
-    let t = c.before in
-    let s = t.before.before.before in
+    let t = c in
+    let s = t in
     let a = s.args in
-    c.code2.ensures
-    ∙ ap code_in (t.tame.ensures ∙ ap (λ (b : ℕ). tamed (bit_and a.x b)) t.before.telling-bits.ensures)
-    ∙ digit_made a.fold a.x (omega (arith, s.well-formed))
+    c.code-2.ensures
+    ∙ ap code_in (t.tame.ensures ∙ ap (λ (b : ℕ). tamed (bit_and a.x b)) t.telling_bits.ensures)
+    ∙ digit_made a.fold a.x (omega (arith, s.well_formed))
 
-pub digit-spec : {M : Type 1} → statement M
-digit-spec = tie.close (tie.spec code-requires returns telling-bits-requires tame-requires code-requires-2 returns-2)
+pub digit_spec : {M : Type 1} → statement M
+digit_spec =
+    tie.close
+    (tie.spec
+    code-requires
+    returns
+    telling-bits-requires
+    tame-requires
+    code-requires-2
+    returns-2)

@@ -3,17 +3,23 @@ use Rattle.packing.proofs.TwoBits.{squeezing}
 use Rattle.packing.proofs.fours.squeeze.Statement.{statement}
 use Rattle.packing.proofs.fours.squeeze.Tie as tie
 
-add-d : tie.Need-overflow-add-d
+add-d : tie.Need-overflow_add-d
 add-d c = search rules
 
-add-result : tie.Need-overflow-add-result
+add-result : tie.Need-overflow_add-result
 add-result c = record { fits = (squeezing c.args.c c.requires).0 }
 
-cast-result : tie.Need-overflow-cast-result
+cast-result : tie.Need-overflow_cast-result
 cast-result c = search rules
 
 returns : tie.Need-returns
 returns c = (squeezing c.args.c c.requires).1
 
-pub squeeze-spec : {M : Type 1} → statement M
-squeeze-spec = tie.close (tie.spec add-d add-result cast-result returns)
+pub squeeze_spec : {M : Type 1} → statement M
+squeeze_spec =
+    tie.close
+    (tie.spec
+    add-d
+    add-result
+    cast-result
+    returns)

@@ -1,11 +1,15 @@
 use Rattle.packing.proofs.fours.tame.Statement.{statement}
 use Rattle.packing.proofs.fours.tame.Tie as tie
 
-returns : tie.Need-returns
-returns c = rw c.if1.true
+returns : tie.Need-returns-then-x
+returns c = rw c.if-x.true
 
-returns-2 : tie.Need-returns-2
-returns-2 c = rw c.if1.false
+returns-2 : tie.Need-returns
+returns-2 c = rw c.if-x.false
 
-pub tame-spec : {M : Type 1} → statement M
-tame-spec = tie.close (tie.spec returns returns-2)
+pub tame_spec : {M : Type 1} → statement M
+tame_spec =
+    tie.close
+    (tie.spec
+    returns
+    returns-2)

@@ -19,17 +19,17 @@ use Rattle.packing.proofs.Ends.{product_le}
 use Rattle.packing.proofs.run.left_over.Statement.{statement}
 use Rattle.packing.proofs.run.left_over.Tie as tie
 
-abbrev invariant-loop : tie.invariant-loop
+abbrev invariant-loop : tie.invariant-loop-i
 invariant-loop table b p a text n left from acc₀ i₀ acc i =
     (from ≡ n - min n left) × (from ≤ i) × (i ≤ n) × (n ≡ length text)
     × (acc ≡ trailed (at_hand p a b (looked table text)) a (p + from * b) ((i - from) * b))
 
-abbrev decreases-loop : tie.decreases-loop
+abbrev decreases-loop : tie.decreases-loop-i
 decreases-loop table b p a text n left from acc₀ i₀ acc i = n - i
 
 -- the loop's head and the entry
 abbrev Head : Type 0
-Head = tie.At-loop invariant-loop decreases-loop
+Head = tie.At-loop-i invariant-loop decreases-loop
 
 abbrev start : Head → tie.Start invariant-loop decreases-loop
 start h = h.before.before.before.before
@@ -39,7 +39,7 @@ abbrev count : Head → ℕ
 count h = length (start h).args.text.now
 
 abbrev from : Head → ℕ
-from h = count h - h.before.least.result
+from h = count h - h.least.result
 
 -- the bits at hand
 abbrev stream : Head → ℕ → ℕ
@@ -59,34 +59,34 @@ one_on i f h = omega arith
 few_left : (p n b : ℕ) → (p + n * b) % 8 < 8
 few_left p n b = mod-lt (p + n * b) (lit< tt)
 
-mul_left : tie.Need-overflow-mul-left invariant-loop decreases-loop
+mul_left : tie.Need-overflow_mul-left invariant-loop decreases-loop
 mul_left c =
-    let s = c.before in
+    let s = c in
     omega (arith, product_le (length s.args.text.now) s.args.b s.requires.bounded s.requires.narrow)
 
-add_left : tie.Need-overflow-add-left invariant-loop decreases-loop
+add_left : tie.Need-overflow_add-left invariant-loop decreases-loop
 add_left c =
-    let s = c.before in
+    let s = c in
     omega (arith, product_le (length s.args.text.now) s.args.b s.requires.bounded s.requires.narrow, s.requires.few)
 
 -- no bits are left
-returns : tie.Need-returns invariant-loop decreases-loop
+returns : tie.Need-returns-then-left-eq0 invariant-loop decreases-loop
 unfolding word
 returns c =
-    let a = c.before.before.args in
+    let a = c.args in
     let d : List ℕ = looked a.table.now a.text.now in
-    let none : (a.p + length d * a.b) % 8 ≡ 0 = ap (λ (n : ℕ). (a.p + n * a.b) % 8) (length-map a.text.now (at a.table.now)) ∙ c.if1.true in
+    let none : (a.p + length d * a.b) % 8 ≡ 0 = ap (λ (n : ℕ). (a.p + n * a.b) % 8) (length-map a.text.now (at a.table.now)) ∙ c.if-left-eq0.true in
     sym (ap (word (at_hand a.p a.a a.b d) ((a.p + length d * a.b) / 8 * 8)) none)
 
 least-requires : tie.Need-least-requires invariant-loop decreases-loop
 least-requires c κs = search rules
 
-sub-from : tie.Need-overflow-sub-from invariant-loop decreases-loop
+sub-from : tie.Need-overflow_sub-from invariant-loop decreases-loop
 sub-from c = search rules
 
-loop-holds : tie.Need-loop-init invariant-loop decreases-loop
+loop-holds : tie.Need-loop-i-init invariant-loop decreases-loop
 loop-holds c =
-    let a = c.before.before.before.args in
+    let a = c.args in
     let n : ℕ = length a.text.now in
     let f : ℕ = n - c.least.result in
     let none : (f - f) * a.b ≡ 0 = ap (λ (x : ℕ). x * a.b) (let z : f - f ≡ 0 = omega arith in z) ∙ zero-mul a.b in
@@ -97,85 +97,85 @@ loop-holds c =
 digit-requires : tie.Need-digit-requires invariant-loop decreases-loop
 digit-requires c κs = search rules
 
-push-requires : tie.Need-push-requires invariant-loop decreases-loop
+push-requires : tie.Need-push-acc-requires invariant-loop decreases-loop
 push-requires c κs = search rules
 
-add-i : tie.Need-overflow-add-i invariant-loop decreases-loop
+add-i : tie.Need-overflow_step-i invariant-loop decreases-loop
 add-i c = search rules
 
-loop-less : tie.Need-loop-smaller invariant-loop decreases-loop
+loop-less : tie.Need-loop-i-smaller invariant-loop decreases-loop
 loop-less c = search rules
 
-loop-again : tie.Need-loop-preserved invariant-loop decreases-loop
+loop-again : tie.Need-loop-i-preserved invariant-loop decreases-loop
 loop-again c =
-    let h = c.before.before.before in
-    let l = h.loop in
-    let s = start h in
+    let h = c in
+    let l = h.loop-i in
+    let s = start h.before.before.before in
     let a = s.args in
-    let f : ℕ = from h in
+    let f : ℕ = from h.before.before.before in
     let k : ℕ = l.i - f in
-    let d = c.before.digit in
-    let inside : l.i < length a.text.now = omega (arith, c.before.before.loop-test.true) in
-    let narrow : a.b ≤ 8 = s.pre.narrow in
+    let d = c.digit in
+    let inside : l.i < length a.text.now = omega (arith, c.loop-i-test.true) in
+    let narrow : a.b ≤ 8 = s.requires.narrow in
     let few : a.b < 64 = omega arith in
-    let small : a.a < 2 ^ 7 = lt_of_lt_of_le s.pre.small (pow_mono (let z : a.p ≤ 7 = omega (arith, s.pre.few) in z)) in
+    let small : a.a < 2 ^ 7 = lt_of_lt_of_le s.requires.small (pow_mono (let z : a.p ≤ 7 = omega (arith, s.requires.few) in z)) in
     let next : (l.i + 1 - f) * a.b ≡ k * a.b + a.b =
     ap (λ (x : ℕ). x * a.b) (one_on l.i f l.invariant.1) ∙ add-mul k 1 a.b ∙ ap (λ (x : ℕ). k * a.b + x) (one-mul a.b) in
     let place : a.p + l.i * a.b ≡ a.p + f * a.b + k * a.b =
     ap (λ (x : ℕ). a.p + x * a.b) (as-behind l.i f l.invariant.1)
     ∙ ap (λ (x : ℕ). a.p + x) (add-mul f k a.b)
     ∙ sym (add_assoc a.p (f * a.b) (k * a.b)) in
-    let digit : d.result % 2 ^ a.b ≡ word (stream h) (a.p + f * a.b + k * a.b) a.b =
+    let digit : d.result % 2 ^ a.b ≡ word (stream h.before.before.before) (a.p + f * a.b + k * a.b) a.b =
     ap (λ (x : ℕ). x % 2 ^ a.b) d.ensures
     ∙ looked_digit a.b a.p a.a a.table.now a.text.now l.i inside
-    ∙ ap (λ (x : ℕ). word (stream h) x a.b) place in
-    let six : k ≤ 6 = omega (arith, l.invariant.0, c.before.before.loop-test.true, few_left a.p (count h) a.b) in
+    ∙ ap (λ (x : ℕ). word (stream h.before.before.before) x a.b) place in
+    let six : k ≤ 6 = omega (arith, l.invariant.0, c.loop-i-test.true, few_left a.p (count h.before.before.before) a.b) in
     let room : l.acc * 2 ^ a.b < 2 ^ 64 =
     subst (λ (x : ℕ). x * 2 ^ a.b < 2 ^ 64) (sym l.invariant.4)
-    (trail_fits (stream h) (stream-lt h) a.a (a.p + f * a.b) k a.b small six narrow) in (
+    (trail_fits (stream h.before.before.before) (stream-lt h.before.before.before) a.a (a.p + f * a.b) k a.b small six narrow) in (
       l.invariant.0,
       omega (arith, l.invariant.1),
-      omega (arith, c.before.before.loop-test.true),
+      omega (arith, c.loop-i-test.true),
       refl,
-      c.push.ensures
+      c.push-acc.ensures
           ∙ push_is few l.acc d.result room
           ∙ ap (λ (x : ℕ). x * 2 ^ a.b + d.result % 2 ^ a.b) l.invariant.4
-          ∙ trail_more (stream h) (stream-lt h) a.a (a.p + f * a.b) (k * a.b) a.b (d.result % 2 ^ a.b) digit
-          ∙ ap (trailed (stream h) a.a (a.p + f * a.b)) (sym next),
+          ∙ trail_more (stream h.before.before.before) (stream-lt h.before.before.before) a.a (a.p + f * a.b) (k * a.b) a.b (d.result % 2 ^ a.b) digit
+          ∙ ap (trailed (stream h.before.before.before) a.a (a.p + f * a.b)) (sym next),
     )
 
 low-requires : tie.Need-low-requires invariant-loop decreases-loop
 low-requires c κs = search rules
 
-cast-result : tie.Need-overflow-cast-result invariant-loop decreases-loop
+cast-result : tie.Need-overflow_cast-result invariant-loop decreases-loop
 cast-result c =
-    let h = c.before.before in
-    let l = h.loop in
-    let a = (start h).args in
-    let q : ℕ = (a.p + count h * a.b) % 8 in
-    let least : q < 8 = few_left a.p (count h) a.b in
+    let h = c in
+    let l = h.loop-i in
+    let a = (start h.before.before).args in
+    let q : ℕ = (a.p + count h.before.before * a.b) % 8 in
+    let least : q < 8 = few_left a.p (count h.before.before) a.b in
     let below : q < 64 = omega arith in
     omega (arith, c.low.ensures ∙ low_is below l.acc, low_under l.acc q 8 (omega arith))
 
-returns-2 : tie.Need-returns-2 invariant-loop decreases-loop
+returns-2 : tie.Need-returns invariant-loop decreases-loop
 returns-2 c =
-    let h = c.before.before in
-    let l = h.loop in
-    let s = start h in
+    let h = c in
+    let l = h.loop-i in
+    let s = start h.before.before in
     let a = s.args in
-    let q : ℕ = (a.p + count h * a.b) % 8 in
-    let least : q < 8 = few_left a.p (count h) a.b in
+    let q : ℕ = (a.p + count h.before.before * a.b) % 8 in
+    let least : q < 8 = few_left a.p (count h.before.before) a.b in
     let below : q < 64 = omega arith in
     let d = looked a.table.now a.text.now in
-    let f : ℕ = from h in
-    let all : l.i ≡ count h = omega (arith, l.invariant.2, c.before.loop-test.false) in
+    let f : ℕ = from h.before.before in
+    let all : l.i ≡ count h.before.before = omega (arith, l.invariant.2, c.loop-i-test.false) in
     c.low.ensures
     ∙ low_is below l.acc
-    ∙ ap (λ (x : ℕ). x % 2 ^ q) (l.invariant.4 ∙ ap (λ (i : ℕ). trailed (stream h) a.a (a.p + f * a.b) ((i - f) * a.b)) all)
-    ∙ trail_end a.b a.p a.a s.pre.some s.pre.small d (count h) f (sym (length-map a.text.now (at a.table.now))) l.invariant.0
+    ∙ ap (λ (x : ℕ). x % 2 ^ q) (l.invariant.4 ∙ ap (λ (i : ℕ). trailed (stream h.before.before) a.a (a.p + f * a.b) ((i - f) * a.b)) all)
+    ∙ trail_end a.b a.p a.a s.requires.some s.requires.small d (count h.before.before) f (sym (length-map a.text.now (at a.table.now))) l.invariant.0
 
-pub left-over-spec : {M : Type 1} → statement M
-left-over-spec =
+pub left_over_spec : {M : Type 1} → statement M
+left_over_spec =
     tie.close
     (tie.spec
     invariant-loop

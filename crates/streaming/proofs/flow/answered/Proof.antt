@@ -7,28 +7,35 @@ use Rattle.streaming.specs.Flow.{answered_by}
 use Rattle.streaming.proofs.flow.answered.Statement.{statement}
 use Rattle.streaming.proofs.flow.answered.Tie as tie
 
-sub-budget : tie.Need-overflow-sub-budget
+sub-budget : tie.Need-overflow_sub-budget
 sub-budget c = search rules
 
-sub-status-of : tie.Need-overflow-sub-status-of
+sub-status-of : tie.Need-overflow_sub-room
 sub-status-of c = search rules
 
-status-of-requires : tie.Need-status-of-requires
+status-of-requires : tie.Need-status_of-requires
 status-of-requires c κs = search rules
 
-cast-t12 : tie.Need-overflow-cast-t12
+cast-t12 : tie.Need-overflow_cast-result
 cast-t12 c = search rules
 
-cast-t13 : tie.Need-overflow-cast-t13
+cast-t13 : tie.Need-overflow_cast-result-2
 cast-t13 c = search rules
 
 returns : tie.Need-returns
 unfolding answered_by
 returns c =
-    let a = c.before.before.args in
+    let a = c.args in
     ap (λ (x : Status). Streamed.Moved a.taken a.n x (record { alphabet = a.s.alphabet; skip = 0; budget = a.s.budget - a.n; bits = a.have; pending = a.acc }))
-    c.status-of.ensures
+    c.status_of.ensures
 
-pub answered-spec : {M : Type 1} → statement M
-answered-spec =
-    tie.close (tie.spec sub-budget sub-status-of status-of-requires cast-t12 cast-t13 returns)
+pub answered_spec : {M : Type 1} → statement M
+answered_spec =
+    tie.close
+    (tie.spec
+    sub-budget
+    sub-status-of
+    status-of-requires
+    cast-t12
+    cast-t13
+    returns)

@@ -13,50 +13,50 @@ handed : {P : Type 0} (s : tie.Start) (k : ℕ) → s.args.b ≡ k
 handed s k e = ((subst (λ (k : ℕ). Reads s.args.s s.args.table.now k) e s.requires.0, λ f. absurd (true≢false (sym f))), s.requires.1)
 
 blocks-requires : tie.Need-blocks-requires
-blocks-requires c κs = let h = c.before.before in handed h.before.before.before 2 h.if1.true
+blocks-requires c κs = let h = c in handed h.before.before.before.before.before 2 h.if-b-eq2.true
 
-same_length : tie.Need-same-length
+same_length : tie.Need-shape_of-out-then-b-eq2
 same_length c = search rules
 
-returns : tie.Need-returns
+returns : tie.Need-returns-then-b-eq2
 returns c = search rules
 
-blocks-requires-2 : tie.Need-blocks-requires-2
-blocks-requires-2 c κs = let h = c.before.before in handed h.before.before.before.before 3 h.if2.true
+blocks-requires-2 : tie.Need-blocks-requires-then-b-eq3
+blocks-requires-2 c κs = let h = c in handed h.before.before.before.before.before.before 3 h.if-b-eq3.true
 
-same-length-2 : tie.Need-same-length-2
+same-length-2 : tie.Need-shape_of-out-then-b-eq3
 same-length-2 c = search rules
 
-returns-2 : tie.Need-returns-2
+returns-2 : tie.Need-returns-then-b-eq3
 returns-2 c = search rules
 
 -- the start, where the width is neither 2 nor 3
-abbrev not_three : tie.Else2 → tie.Start
+abbrev not_three : tie.Else-b-eq3 → tie.Start
 not_three h = h.before.before.before.before
 
-blocks-requires-3 : tie.Need-blocks-requires-3
-blocks-requires-3 c κs = let h = c.before.before in handed (not_three h.before) 4 h.if3.true
+blocks-requires-3 : tie.Need-blocks-requires-then-b-eq4
+blocks-requires-3 c κs = let h = c in handed (not_three h.before.before.before) 4 h.if-b-eq4.true
 
-same-length-3 : tie.Need-same-length-3
+same-length-3 : tie.Need-shape_of-out-then-b-eq4
 same-length-3 c = search rules
 
-returns-3 : tie.Need-returns-3
+returns-3 : tie.Need-returns-then-b-eq4
 returns-3 c = search rules
 
-blocks-requires-4 : tie.Need-blocks-requires-4
+blocks-requires-4 : tie.Need-blocks-requires-2
 blocks-requires-4 c κs =
-    let h = c.before.before in
-    let s = not_three h.before in
-    handed s 5 (last_width s.pre.0 h.before.before.if1.false h.before.if2.false h.if3.false)
+    let h = c in
+    let s = not_three h.before.before.before in
+    handed s 5 (last_width s.requires.0 h.if-b-eq2.false h.if-b-eq3.false h.if-b-eq4.false)
 
-same-length-4 : tie.Need-same-length-4
+same-length-4 : tie.Need-shape_of-out
 same-length-4 c = search rules
 
-returns-4 : tie.Need-returns-4
+returns-4 : tie.Need-returns
 returns-4 c = search rules
 
-pub by-ones-spec : {M : Type 1} → statement M
-by-ones-spec =
+pub by_ones_spec : {M : Type 1} → statement M
+by_ones_spec =
     tie.close
     (tie.spec
     blocks-requires

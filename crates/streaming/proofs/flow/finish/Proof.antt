@@ -16,17 +16,17 @@ use Rattle.streaming.proofs.Pumping.{next_base, next_level}
 use Rattle.streaming.proofs.flow.finish.Statement.{statement}
 use Rattle.streaming.proofs.flow.finish.Tie as tie
 
-abbrev invariant-loop : tie.invariant-loop
+abbrev invariant-loop : tie.invariant-loop-n
 invariant-loop s table b source out₀ limit acc₀ have₀ taken₀ n₀ out acc have taken n =
     (n ≤ limit) × Level s source acc have taken n × (have < 8) × (out ≡ filled s source n out₀) × (length out ≡ length out₀)
 
-abbrev decreases-loop : tie.decreases-loop
+abbrev decreases-loop : tie.decreases-loop-n
 decreases-loop s table b source out₀ limit acc₀ have₀ taken₀ n₀ out acc have taken n = limit - n
 
 -- ---- what is known at the head of the loop
 
 abbrev Head : Type 0
-Head = tie.At-loop invariant-loop decreases-loop
+Head = tie.At-loop-n invariant-loop decreases-loop
 
 abbrev start : Head → tie.Start invariant-loop decreases-loop
 start l = l.before.before.before.before
@@ -34,39 +34,39 @@ start l = l.before.before.before.before
 abbrev text : Head → List ℕ
 text l = (start l).args.source.now
 
-limit : (l : Head) → l.before.least.result ≡ min (start l).args.s.budget (length (start l).args.out.now)
-limit l = l.before.least.ensures
+limit : (l : Head) → l.least-limit.result ≡ min (start l).args.s.budget (length (start l).args.out.now)
+limit l = l.least-limit.ensures
 
 -- nothing falls out of the word
-room : (l : Head) → l.loop.acc < 2 ^ 56
-room l = lt_of_lt_of_le (level_lt l.loop.inv.1) (pow_mono {j = 56} (omega (arith, l.loop.inv.2)))
+room : (l : Head) → l.loop-n.acc < 2 ^ 56
+room l = lt_of_lt_of_le (level_lt l.loop-n.invariant.1) (pow_mono {j = 56} (omega (arith, l.loop-n.invariant.2)))
 
-least-requires : tie.Need-least-requires invariant-loop decreases-loop
+least-requires : tie.Need-least-limit-requires invariant-loop decreases-loop
 least-requires c κs = search rules
 
-loop-holds : tie.Need-loop-init invariant-loop decreases-loop
+loop-holds : tie.Need-loop-n-init invariant-loop decreases-loop
 loop-holds c =
-    let s = c.before.before.before in
+    let s = c in
     let p = s.requires.1.0 in
-    (omega (arith, p.most, c.least.ensures), p.level, p.few, s.requires.1.1, refl)
+    (omega (arith, p.most, c.least-limit.ensures), p.level, p.few, s.requires.1.1, refl)
 
-shared-slice-read-push-byte : tie.Need-shared-slice-read-push-byte invariant-loop decreases-loop
-shared-slice-read-push-byte c = let l = c.before.before.before.before in omega (arith, l.loop.invariant.1.within, c.before.if2.false)
+shared-slice-read-push-byte : tie.Need-bounds-source-taken invariant-loop decreases-loop
+shared-slice-read-push-byte c = let l = c in omega (arith, l.loop-n.invariant.1.within, c.if-taken-source.false)
 
-push-byte-requires : tie.Need-push-byte-requires invariant-loop decreases-loop
+push-byte-requires : tie.Need-push_byte-acc-requires invariant-loop decreases-loop
 push-byte-requires c κs = search rules
 
-add-taken : tie.Need-overflow-add-taken invariant-loop decreases-loop
+add-taken : tie.Need-overflow_add-taken invariant-loop decreases-loop
 add-taken c =
-    let l = c.before.before.before.before.before in
-    omega (arith, shared-slice-read-push-byte c.before, (start l).well-formed)
+    let l = c in
+    omega (arith, shared-slice-read-push-byte c.before, (start l.before.before.before.before.before).well_formed)
 
-add-have : tie.Need-overflow-add-have invariant-loop decreases-loop
-add-have c = let l = c.before.before.before.before.before in omega (arith, l.loop.invariant.2)
+add-have : tie.Need-overflow_add-have invariant-loop decreases-loop
+add-have c = let l = c in omega (arith, l.loop-n.invariant.2)
 
 -- where the arms meet there are bits for a base, and no byte more than it needs
 abbrev Ready : Type 0
-Ready = tie.Joined1 invariant-loop decreases-loop
+Ready = tie.Joined-have-b invariant-loop decreases-loop
 
 abbrev head : Ready → Head
 head c = c.before.before
@@ -75,78 +75,78 @@ abbrev width : Ready → ℕ
 width c = (start (head c)).args.b
 
 ready : (c : Ready)
-    → Level (start (head c)).args.s (text (head c)) c.if1.acc c.if1.have c.if1.taken (head c).loop.n
-    × ((width c ≤ c.if1.have) × (c.if1.have < width c + 8))
+    → Level (start (head c)).args.s (text (head c)) c.if-have-b.acc c.if-have-b.have c.if-have-b.true (head c).loop-n.n
+    × ((width c ≤ c.if-have-b.have) × (c.if-have-b.have < width c + 8))
 ready c =
     let l = head c in
-    let inv = l.loop.inv in
-    let five = (start l).pre.0.0.five in
+    let inv = l.loop-n.invariant in
+    let five = (start l).requires.0.0.five in
     ⊎_elim
     (λ w. (
       level_same
-          (level_fill inv.1 (omega (arith, inv.1.within, w.1.left)) _ refl (w.2.given l.loop.taken).fits (w.3.ensures ∙ push_byte_is _ _ (room l)))
+          (level_fill inv.1 (omega (arith, inv.1.within, w.1.left)) _ refl (w.2.given l.loop-n.taken).fits (w.3.ensures ∙ push_byte_is _ _ (room l)))
           w.4 w.5 w.6,
       (omega (arith, w.5, five), omega (arith, w.5, w.0.taken)),
     ))
     (λ w. (level_same inv.1 w.1 w.2 w.3, (omega (arith, w.2, w.0.left), omega (arith, w.2, inv.2))))
-    c.if1.branch
+    c.if-have-b.branch
 
-sub-have : tie.Need-overflow-sub-have invariant-loop decreases-loop
+sub-have : tie.Need-overflow_sub-have invariant-loop decreases-loop
 sub-have c = (ready c.before).1.0
 
 field-requires : tie.Need-field-requires invariant-loop decreases-loop
 field-requires c κs = search rules
 
 -- the base's code, as an index
-code : (c : tie.After-field invariant-loop decreases-loop) → (let r = c.before.before in
-    (c.field.result ≡ r.if1.acc / 2 ^ (r.if1.have - width r) % 2 ^ width r) × (c.field.result < 32))
+code : (c : tie.After-field invariant-loop decreases-loop) → (let r = c in
+    (c.field.result ≡ r.if-have-b.acc / 2 ^ (r.if-have-b.have - width r.before.before) % 2 ^ width r.before.before) × (c.field.result < 32))
 code c =
-    let r = c.before.before in
-    let five = (start (head r)).pre.0.0.five in
-    code_is _ (omega (arith, (ready r).1.1, five)) five c.field.ensures
+    let r = c in
+    let five = (start (head r.before.before)).requires.0.0.five in
+    code_is _ (omega (arith, (ready r.before.before).1.1, five)) five c.field.ensures
 
-element-copy-out-out : tie.Need-element-copy-out-out invariant-loop decreases-loop
-element-copy-out-out c = omega (arith, (code c).1)
+element-copy-out-out : tie.Need-bounds-table-field invariant-loop decreases-loop
+element-copy-out-out c = omega (arith, (code c.before).1)
 
 -- a turn
-abbrev turn : tie.After-out invariant-loop decreases-loop → tie.In-loop invariant-loop decreases-loop
-turn c = c.before.before.before.before
+abbrev turn : tie.After-out-1 invariant-loop decreases-loop → tie.In-loop-n invariant-loop decreases-loop
+turn c = c.before.before.before.before.before
 
-slice-write-out : tie.Need-slice-write-out invariant-loop decreases-loop
+slice-write-out : tie.Need-bounds-out-n invariant-loop decreases-loop
 slice-write-out c =
     let i = turn c in
-    omega (arith, i.loop-test.taken, i.before.loop.inv.4, limit i.before)
+    omega (arith, i.loop-n-test.true, i.loop-n.invariant.4, limit i.before)
 
-low-requires : tie.Need-low-requires invariant-loop decreases-loop
+low-requires : tie.Need-low-acc-requires invariant-loop decreases-loop
 low-requires c κs = search rules
 
-add-n : tie.Need-overflow-add-n invariant-loop decreases-loop
-add-n c = let i = turn c.before in omega (arith, i.loop-test.taken, limit i.before, (start i.before).good)
+add-n : tie.Need-overflow_add-n invariant-loop decreases-loop
+add-n c = let i = turn c.before in omega (arith, i.loop-n-test.true, limit i.before, (start i.before).well_formed)
 
-loop-less : tie.Need-loop-smaller invariant-loop decreases-loop
-loop-less c = omega (arith, (turn c.before).loop-test.taken)
+loop-less : tie.Need-loop-n-smaller invariant-loop decreases-loop
+loop-less c = omega (arith, (turn c.before).loop-n-test.true)
 
-loop-again : tie.Need-loop-preserved invariant-loop decreases-loop
+loop-again : tie.Need-loop-n-preserved invariant-loop decreases-loop
 loop-again c =
     let i = turn c.before in
-    let l = i.before in
-    let inv = l.loop.inv in
-    let s = (start l).args.s in
-    let reads = (start l).pre.0.0 in
-    let f = c.before.before in
-    let r = ready f.before.before in (
-      omega (arith, i.loop-test.taken),
-      next_level s (text l) (start l).args.b reads.wide r.0 r.1.0 (c.low.ensures ∙ low_is (omega (arith, r.1.1, reads.five)) _),
+    let l = i in
+    let inv = l.loop-n.invariant in
+    let s = (start l.before).args.s in
+    let reads = (start l.before).requires.0.0 in
+    let f = c in
+    let r = ready f.before.before.before.before.before in (
+      omega (arith, i.loop-n-test.true),
+      next_level s (text l.before) (start l.before).args.b reads.wide r.0 r.1.0 (c.low-acc.ensures ∙ low_is (omega (arith, r.1.1, reads.five)) _),
       omega (arith, r.1.1),
-      fill_more s (text l) l.loop.out (start l).args.out.now l.loop.n _ (omega (arith, i.loop-test.taken, limit l)) inv.3
-          (next_base s (text l) (start l).args.b reads.wide r.0 r.1.0 _ f.field.result reads.entries (code f).1 (code f).0),
+      fill_more s (text l.before) l.loop-n.out (start l.before).args.out.now l.loop-n.n _ (omega (arith, i.loop-n-test.true, limit l.before)) inv.3
+          (next_base s (text l.before) (start l.before).args.b reads.wide r.0 r.1.0 _ f.field.result reads.entries (code f.before.before.before).1 (code f.before.before.before).0),
       simp length-set inv.4,
     )
 
 -- ---- the end
 
 -- the count is the greatest
-count : (c : tie.Left-loop invariant-loop decreases-loop) → c.before.loop.n ≡ bases_of (start c.before).args.s (text c.before) (length (start c.before).args.out.now)
+count : (c : tie.Left-loop-n invariant-loop decreases-loop) → c.before.loop.n ≡ bases_of (start c.before).args.s (text c.before) (length (start c.before).args.out.now)
 count c =
     let l = c.before in
     let inv = l.loop.invariant in
@@ -159,20 +159,20 @@ count c =
 
 answered-requires : tie.Need-answered-requires invariant-loop decreases-loop
 answered-requires c κs =
-    let inv = c.before.loop.invariant in
+    let inv = c.loop-n.invariant in
     (omega (arith, inv.0, limit c.before, inv.4), (inv.2, lt_of_lt_of_le (level_lt inv.1) (pow_mono {j = 8} (omega (arith, inv.2)))))
 
-same_length : tie.Need-same-length invariant-loop decreases-loop
-same_length c = c.before.before.loop.invariant.4
+same_length : tie.Need-shape_of-out invariant-loop decreases-loop
+same_length c = c.loop-n.invariant.4
 
 returns : tie.Need-returns invariant-loop decreases-loop
 returns c =
-    let l = c.before.before in
-    let inv = l.loop.invariant in
-    let a = (start l).args in
+    let l = c in
+    let inv = l.loop-n.invariant in
+    let a = (start l.before.before).args in
     let all = count c.before in (
       level_answer inv.1 (length a.out.now) inv.2 all c.answered.ensures inv.4,
-      inv.3 ∙ ap (λ (k : ℕ). filled a.s (text l) k a.out.now) all,
+      inv.3 ∙ ap (λ (k : ℕ). filled a.s (text l.before.before) k a.out.now) all,
     )
 
 pub finish_spec : {M : Type 1} → statement M

@@ -8,79 +8,79 @@ use Rattle.streaming.proofs.Blocks.{Gathered, gather_more, gather_behind}
 use Rattle.streaming.proofs.flow.gather.Statement.{statement}
 use Rattle.streaming.proofs.flow.gather.Tie as tie
 
-abbrev invariant-loop : tie.invariant-loop
+abbrev invariant-loop : tie.invariant-loop-i
 invariant-loop source from m acc bits₀ i₀ bits i = (i ≤ m) × Gathered source from i bits
 
-abbrev decreases-loop : tie.decreases-loop
+abbrev decreases-loop : tie.decreases-loop-i
 decreases-loop source from m acc bits₀ i₀ bits i = m - i
 
-loop-holds : tie.Need-loop-init invariant-loop decreases-loop
+loop-holds : tie.Need-loop-i-init invariant-loop decreases-loop
 unfolding word
 loop-holds c = (search rules, refl)
 
-add-push-byte : tie.Need-overflow-add-push-byte invariant-loop decreases-loop
+add-push-byte : tie.Need-overflow_add-from invariant-loop decreases-loop
 add-push-byte c = search rules
 
-shared-slice-read-push-byte : tie.Need-shared-slice-read-push-byte invariant-loop decreases-loop
+shared-slice-read-push-byte : tie.Need-bounds-source-from invariant-loop decreases-loop
 shared-slice-read-push-byte c = search rules
 
-push-byte-requires : tie.Need-push-byte-requires invariant-loop decreases-loop
+push-byte-requires : tie.Need-push_byte-bits-requires invariant-loop decreases-loop
 push-byte-requires c κs = search rules
 
-add-i : tie.Need-overflow-add-i invariant-loop decreases-loop
+add-i : tie.Need-overflow_step-i invariant-loop decreases-loop
 add-i c = search rules
 
-loop-less : tie.Need-loop-smaller invariant-loop decreases-loop
+loop-less : tie.Need-loop-i-smaller invariant-loop decreases-loop
 loop-less c = search rules
 
-loop-again : tie.Need-loop-preserved invariant-loop decreases-loop
+loop-again : tie.Need-loop-i-preserved invariant-loop decreases-loop
 loop-again c =
-    let l = c.before.before.before in
-    let start = l.before.before in
+    let l = c in
+    let start = l in
     let a = start.args in (
       search rules,
-      c.push-byte.ensures
-          ∙ gather_more a.source.now a.from (λ j. (c.before.shared-slice-known2.given j).fits) l.loop.i l.loop.bits
-          (omega (arith, c.before.before.loop-test.true, start.requires.1.0)) l.loop.invariant.1,
+      c.push_byte-bits.ensures
+          ∙ gather_more a.source.now a.from (λ j. (c.shared_slice_known-in-loop-i-1.given j).fits) l.loop-i.i l.loop-i.bits
+          (omega (arith, c.loop-i-test.true, start.requires.1.0)) l.loop-i.invariant.1,
     )
 
-mul_power : tie.Need-overflow-mul-power invariant-loop decreases-loop
+mul_power : tie.Need-overflow_mul-m invariant-loop decreases-loop
 mul_power c = search rules
 
 power-requires : tie.Need-power-requires invariant-loop decreases-loop
 power-requires c κs = search rules
 
 -- all bytes are joined
-abbrev start : tie.After-loop invariant-loop decreases-loop → tie.Start invariant-loop decreases-loop
+abbrev start : tie.After-loop-i invariant-loop decreases-loop → tie.Start invariant-loop decreases-loop
 start e = e.before.before.before
 
-all : (e : tie.After-loop invariant-loop decreases-loop) → (let a = (start e).args in Gathered a.source.now a.from a.m e.before.loop.bits)
+all : (e : tie.After-loop-i invariant-loop decreases-loop) → (let a = (start e).args in Gathered a.source.now a.from a.m e.loop-i.bits)
 all e =
-    let l = e.before.loop in
-    let last : l.i ≡ (start e).args.m = omega (arith, l.invariant.0, e.loop-test.false) in
+    let l = e.loop-i in
+    let last : l.i ≡ (start e).args.m = omega (arith, l.invariant.0, e.loop-i-test.false) in
     rw last at l.invariant.1
 
 -- and the number before them has its place
 place : (p : tie.After-power invariant-loop decreases-loop) → p.power.result ≡ 2 ^ ((start p.before).args.m * 8)
-place p = p.power.ensures ∙ power_is (omega (arith, (start p.before).pre.1.0))
+place p = p.power.ensures ∙ power_is (omega (arith, (start p.before).requires.1.0))
 
-fits : (p : tie.After-power invariant-loop decreases-loop) → (start p.before).args.acc * p.power.result + p.before.before.loop.bits < 2 ^ 64
+fits : (p : tie.After-power invariant-loop decreases-loop) → (start p.before).args.acc * p.power.result + p.loop-i.bits < 2 ^ 64
 fits p =
     let s = start p.before in
     let a = s.args in
-    rw (place p) (gather_behind a.source.now a.from a.acc a.m p.before.before.loop.bits s.pre.0 s.pre.1.0 (all p.before))
+    rw (place p) (gather_behind a.source.now a.from a.acc a.m p.loop-i.bits s.requires.0 s.requires.1.0 (all p.before))
 
-mul-result : tie.Need-overflow-mul-result invariant-loop decreases-loop
+mul-result : tie.Need-overflow_mul-result invariant-loop decreases-loop
 mul-result c = omega (arith, fits c)
 
-add-result : tie.Need-overflow-add-result invariant-loop decreases-loop
+add-result : tie.Need-overflow_add-result invariant-loop decreases-loop
 add-result c = omega (arith, fits c)
 
 returns : tie.Need-returns invariant-loop decreases-loop
 returns c = ap₂ (λ (x y : ℕ). (start c.before).args.acc * x + y) (place c) (all c.before)
 
-pub gather-spec : {M : Type 1} → statement M
-gather-spec =
+pub gather_spec : {M : Type 1} → statement M
+gather_spec =
     tie.close
     (tie.spec
     invariant-loop

@@ -7,51 +7,51 @@ use Rattle.streaming.proofs.Openings.{open_pending, due_source, open_skip}
 use Rattle.streaming.proofs.flow.opened.Statement.{statement}
 use Rattle.streaming.proofs.flow.opened.Tie as tie
 
-cast-skip : tie.Need-overflow-cast-skip
+cast-skip : tie.Need-overflow_cast-skip
 cast-skip c = search rules
 
-cast-t6 : tie.Need-overflow-cast-t6
+cast-t6 : tie.Need-overflow_cast-result
 cast-t6 c = search rules
 
-cast-t7 : tie.Need-overflow-cast-t7
+cast-t7 : tie.Need-overflow_cast-result-then-skip-eq0
 cast-t7 c = search rules
 
-returns : tie.Need-returns
+returns : tie.Need-returns-then-skip-eq0
 returns c =
-    let test = c.before.before in
-    let start = test.before.before.before in
+    let test = c in
+    let start = test in
     let s = start.args.s in
-    record { few = (sound_facts s start.requires.0).few; none = refl; level = open_pending s start.args.source.now start.requires.0 test.if1.true }
+    record { few = (sound_facts s start.requires.0).few; none = refl; level = open_pending s start.args.source.now start.requires.0 test.if-skip-eq0.true }
 
-sub-have : tie.Need-overflow-sub-have
-sub-have c = let start = c.before.before.before in omega (arith, (sound_facts start.args.s start.requires.0).skips)
+sub-have : tie.Need-overflow_sub-have
+sub-have c = let start = c in omega (arith, (sound_facts start.args.s start.requires.0).skips)
 
-shared-slice-read-low : tie.Need-shared-slice-read-low
+shared-slice-read-low : tie.Need-bounds-source-0
 shared-slice-read-low c =
-    let start = c.before.before.before.before in
-    due_source start.args.s start.args.source.now start.requires.0 c.before.if1.false start.requires.1
+    let start = c in
+    due_source start.args.s start.args.source.now start.requires.0 c.if-skip-eq0.false start.requires.1
 
-cast-low : tie.Need-overflow-cast-low
-cast-low c = omega (arith, c.shared-slice-known2.given 0)
+cast-low : tie.Need-overflow_cast-source
+cast-low c = omega (arith, c.shared_slice_known-2-1.given 0)
 
 low-requires : tie.Need-low-requires
 low-requires c κs = search rules
 
-returns-2 : tie.Need-returns-2
+returns-2 : tie.Need-returns
 returns-2 c =
-    let test = c.before.before in
-    let start = test.before.before.before in
+    let test = c in
+    let start = test in
     let s = start.args.s in
     record {
-      few = omega (arith, test.if1.false);
+      few = omega (arith, test.if-skip-eq0.false);
       none = refl;
       level =
-          open_skip s start.args.source.now start.requires.0 test.if1.false (shared-slice-read-low c.before) (c.before.shared-slice-known2.given 0).fits
+          open_skip s start.args.source.now start.requires.0 test.if-skip-eq0.false (shared-slice-read-low c.before) (c.shared_slice_known-2-1.given 0).fits
           (c.low.ensures ∙ low_is (omega arith) _);
     }
 
-pub opened-spec : {M : Type 1} → statement M
-opened-spec =
+pub opened_spec : {M : Type 1} → statement M
+opened_spec =
     tie.close
     (tie.spec
     cast-skip

@@ -2,14 +2,19 @@ use borrow.Author.Tests.{eq-eqb, ne_eqb}
 use Rattle.streaming.proofs.flow.status_of.Statement.{statement}
 use Rattle.streaming.proofs.flow.status_of.Tie as tie
 
-returns : tie.Need-returns
-returns c = simp (eq-eqb c.before.args.budget 0 c.if1.true)
+returns : tie.Need-returns-then-budget-eq0
+returns c = simp (eq-eqb c.args.budget 0 c.if-budget-eq0.true)
 
-returns-2 : tie.Need-returns-2
-returns-2 c = simp (ne_eqb c.before.before.args.budget 0 c.before.if1.false, eq-eqb c.before.before.args.room 0 c.if2.true)
+returns-2 : tie.Need-returns-then-room-eq0
+returns-2 c = simp (ne_eqb c.args.budget 0 c.if-budget-eq0.false, eq-eqb c.args.room 0 c.if-room-eq0.true)
 
-returns-3 : tie.Need-returns-3
-returns-3 c = simp (ne_eqb c.before.before.args.budget 0 c.before.if1.false, ne_eqb c.before.before.args.room 0 c.if2.false)
+returns-3 : tie.Need-returns
+returns-3 c = simp (ne_eqb c.args.budget 0 c.if-budget-eq0.false, ne_eqb c.args.room 0 c.if-room-eq0.false)
 
-pub status-of-spec : {M : Type 1} → statement M
-status-of-spec = tie.close (tie.spec returns returns-2 returns-3)
+pub status_of_spec : {M : Type 1} → statement M
+status_of_spec =
+    tie.close
+    (tie.spec
+    returns
+    returns-2
+    returns-3)

@@ -9,68 +9,68 @@ use Rattle.windows.proofs.blocks.five_bits.Tie as tie
 
 -- where the table is laid out, and the start; and back from the blocks
 abbrev Laid : Type 0
-Laid = tie.After-decoding-array
+Laid = tie.After-decoding_array-table
 
 abbrev start : (t : Laid) → tie.Start
 start t = t.before.before.before
 
-abbrev laid : (b : tie.After-blocks2) → Laid
+abbrev laid : (b : tie.After-blocks-done) → Laid
 laid b = b.before.before.before
 
-decodes : (t : Laid) → Decodes (coding Protein) t.decoding-array.result
-decodes t = record { five = rw widths.of_protein (lit≤ tt); entries = t.decoding-array.ensures }
+decodes : (t : Laid) → Decodes (coding Protein) t.decoding_array-table.result
+decodes t = record { five = rw widths.of_protein (lit≤ tt); entries = t.decoding_array-table.ensures }
 
 -- the blocks end within the window
-ends : (b : tie.After-blocks2) → b.blocks2.result * 8 ≤ (start (laid b)).args.count
-ends b = omega (arith, b.blocks2.ensures.0)
+ends : (b : tie.After-blocks-done) → b.blocks-done.result * 8 ≤ (start (laid b)).args.count
+ends b = omega (arith, b.blocks-done.ensures.0)
 
-near : (b : tie.After-blocks2) → (start (laid b)).args.start + (start (laid b)).args.count ≤ 2 ^ 60
+near : (b : tie.After-blocks-done) → (start (laid b)).args.start + (start (laid b)).args.count ≤ 2 ^ 60
 near b = (start (laid b)).requires.near
 
-decoding-array-requires : tie.Need-decoding-array-requires
+decoding-array-requires : tie.Need-decoding_array-table-requires
 decoding-array-requires c κs = search rules
 
-blocks-requires : tie.Need-blocks-requires
+blocks-requires : tie.Need-blocks-done-requires
 blocks-requires c κs =
-    let t = c.before.before in
-    let s = start t in (
-      (decodes t, record { some = lit< tt; few = lit≤ tt; whole = ap (λ (w : ℕ). 8 * w) widths.of_protein }),
-      record { near = omega (arith, s.pre.near); space = omega (arith, s.pre.space) },
+    let t = c in
+    let s = start t.before.before in (
+      (decodes t.before.before, record { some = lit< tt; few = lit≤ tt; whole = ap (λ (w : ℕ). 8 * w) widths.of_protein }),
+      record { near = omega (arith, s.requires.near); space = omega (arith, s.requires.space) },
     )
 
-mul-done : tie.Need-overflow-mul-done
-mul-done c = let b = c.before.before in omega (arith, ends b, near b)
+mul-done : tie.Need-overflow_mul-done
+mul-done c = let b = c in omega (arith, ends b.before.before, near b.before.before)
 
-add-singles : tie.Need-overflow-add-singles
-add-singles c = let b = c.before.before.before in omega (arith, ends b, near b)
+add-singles : tie.Need-overflow_add-start
+add-singles c = let b = c in omega (arith, ends b.before.before.before, near b.before.before.before)
 
-sub-singles : tie.Need-overflow-sub-singles
+sub-singles : tie.Need-overflow_sub-count
 sub-singles c = ends c.before.before.before
 
 singles-requires : tie.Need-singles-requires
 singles-requires c κs =
-    let b = c.before.before.before.before in
-    let s = start (laid b) in
-    (decodes (laid b), record { near = omega (arith, ends b, s.pre.near); space = omega (arith, ends b, s.pre.space, b.blocks2.auto.1.1.1.1.1.1.1.1.0) })
+    let b = c in
+    let s = start (laid b.before.before.before.before) in
+    (decodes (laid b.before.before.before.before), record { near = omega (arith, ends b.before.before.before.before, s.requires.near); space = omega (arith, ends b.before.before.before.before, s.requires.space, b.blocks-done.auto.out) })
 
-same_length : tie.Need-same-length
+same_length : tie.Need-shape_of-out
 same_length c =
-    let t = c.before.before in
-    let b = t.before.before.before.before.before in
-    t.singles.auto.1.1.1.1.1.1.0 ∙ b.blocks2.auto.1.1.1.1.1.1.1.1.0
+    let t = c in
+    let b = t in
+    t.singles.auto.out ∙ b.blocks-done.auto.out
 
 returns : tie.Need-returns
 returns c =
-    let t = c.before.before in
-    let b = t.before.before.before.before.before in
-    let s = start (laid b) in
+    let t = c in
+    let b = t in
+    let s = start (laid b.before.before.before.before.before.before.before) in
     let a = s.args in
-    two_runs (coding Protein) a.bytes.now a.offset a.start a.count a.out.now (omega (arith, s.pre.space)) (b.blocks2.result * 8) _ _ (ends b)
-    b.blocks2.ensures.1
+    two_runs (coding Protein) a.bytes.now a.offset a.start a.count a.out.now (omega (arith, s.requires.space)) (b.blocks-done.result * 8) _ _ (ends b.before.before.before.before.before.before.before)
+    b.blocks-done.ensures.1
     t.singles.ensures
 
-pub five-bits-spec : {M : Type 1} → statement M
-five-bits-spec =
+pub five_bits_spec : {M : Type 1} → statement M
+five_bits_spec =
     tie.close
     (tie.spec
     decoding-array-requires

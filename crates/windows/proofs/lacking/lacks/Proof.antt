@@ -15,13 +15,13 @@ threes s = mod-eq_of_lt (omega (arith, few s))
 carries : (s : tie.Start) → in_each 5 1 11 * 2 ^ 5 * 2 ^ s.args.n % 2 ^ 64 ≡ in_each 5 1 11 * 2 ^ 5 * 2 ^ s.args.n
 carries s = mod-eq_of_lt (omega (arith, few s))
 
-shl-threes : tie.Need-overflow-shl-threes
+shl-threes : tie.Need-overflow_shl-threes
 shl-threes c = search rules
 
-add-result : tie.Need-overflow-add-result
+add-result : tie.Need-overflow_add-result
 add-result c = omega (arith, few c, threes c, c.requires.0)
 
-shl-result : tie.Need-overflow-shl-result
+shl-result : tie.Need-overflow_shl-result
 shl-result c = search rules
 
 returns : tie.Need-returns
@@ -31,5 +31,11 @@ returns c e i h =
     let none : bit_and (carried x (in_each 5 3 11 * 2 ^ n % 2 ^ 64)) (in_each 5 1 11 * 2 ^ 5 * 2 ^ n % 2 ^ 64) ≡ 0 = eqb-true _ 0 (not-false _ e) in
     omega (arith, no_carry_above 4 3 (lit< tt) n 11 x (rw (threes c, carries c) at none) i h)
 
-pub lacks-spec : {M : Type 1} → statement M
-lacks-spec = tie.close (tie.spec shl-threes add-result shl-result returns)
+pub lacks_spec : {M : Type 1} → statement M
+lacks_spec =
+    tie.close
+    (tie.spec
+    shl-threes
+    add-result
+    shl-result
+    returns)

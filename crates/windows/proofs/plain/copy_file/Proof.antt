@@ -11,69 +11,69 @@ end_fits x y count before m room room₀ e f h q = omega arith
 beyond-requires : tie.Need-beyond-requires
 beyond-requires c κs = search rules
 
-least-requires : tie.Need-least-requires
+least-requires : tie.Need-least-before-requires
 least-requires c κs = search rules
 
 zeros-requires : tie.Need-zeros-requires
 zeros-requires c κs = search rules
 
-add-beyond : tie.Need-overflow-add-beyond
+add-beyond : tie.Need-overflow_add-start
 add-beyond c = search rules
 
-beyond-requires-2 : tie.Need-beyond-requires-2
+beyond-requires-2 : tie.Need-beyond-first-requires
 beyond-requires-2 c κs = search rules
 
-beyond-requires-3 : tie.Need-beyond-requires-3
+beyond-requires-3 : tie.Need-beyond-requires-2
 beyond-requires-3 c κs = search rules
 
-sub-least : tie.Need-overflow-sub-least
+sub-least : tie.Need-overflow_sub-count
 sub-least c = search rules
 
-least-requires-2 : tie.Need-least-requires-2
+least-requires-2 : tie.Need-least-lent-requires
 least-requires-2 c κs = search rules
 
 copy-requires : tie.Need-copy-requires
 copy-requires c κs = search rules
 
-sub-zeros : tie.Need-overflow-sub-zeros
+sub-zeros : tie.Need-overflow_sub-count-2
 sub-zeros c = search rules
 
-sub-zeros-2 : tie.Need-overflow-sub-zeros-2
+sub-zeros-2 : tie.Need-overflow_sub-count-3
 sub-zeros-2 c = search rules
 
-add-zeros : tie.Need-overflow-add-zeros
+add-zeros : tie.Need-overflow_add-before
 add-zeros c = search rules
 
 zeros-requires-2 : tie.Need-zeros-requires-2
 zeros-requires-2 c κs =
-    let p = c.before.before.before in
-    let l = p.before.before in
-    let z = l.before.before.before.before.before in
-    let s = z.before.before in
-    end_fits _ _ _ _ _ _ _ s.least.ensures l.least2.ensures s.before.before.before.before.requires.space (p.copy.auto.1.1.1.0 ∙ z.zeros.auto.1.0)
+    let p = c in
+    let l = p in
+    let z = l in
+    let s = z in
+    end_fits _ _ _ _ _ _ _ s.least-before.ensures l.least-lent.ensures s.requires.space (p.copy.auto.out ∙ z.zeros.auto.out)
 
-same_length : tie.Need-same-length
+same_length : tie.Need-shape_of-out
 same_length c = search rules
 
 returns : tie.Need-returns
 returns c =
-    let y = c.before.before in
-    let p = y.before.before.before.before in
-    let l = p.before.before in
-    let z = l.before.before.before.before.before in
-    let s = z.before.before in
-    let a = s.before.before.before.before.args in
-    three_parts a.bytes.now a.offset a.start a.count a.out.now (omega (arith, s.before.before.before.before.requires.space))
-    s.least.result l.before.before.beyond2.result l.least2.result _ _ _
-    (s.least.ensures ∙ ap (λ (x : ℕ). min x a.count) s.before.beyond.ensures)
-    l.before.before.beyond2.ensures
-    (l.least2.ensures ∙ ap (λ (x : ℕ). min x (a.count - s.least.result)) l.before.beyond3.ensures)
+    let y = c in
+    let p = y in
+    let l = p in
+    let z = l in
+    let s = z in
+    let a = s.args in
+    three_parts a.bytes.now a.offset a.start a.count a.out.now (omega (arith, s.requires.space))
+    s.least-before.result l.beyond-first.result l.least-lent.result _ _ _
+    (s.least-before.ensures ∙ ap (λ (x : ℕ). min x a.count) s.beyond.ensures)
+    l.beyond-first.ensures
+    (l.least-lent.ensures ∙ ap (λ (x : ℕ). min x (a.count - s.least-before.result)) l.beyond-2.ensures)
     z.zeros.ensures
     p.copy.ensures
-    y.zeros2.ensures
+    y.zeros-2.ensures
 
-pub copy-file-spec : {M : Type 1} → statement M
-copy-file-spec =
+pub copy_file_spec : {M : Type 1} → statement M
+copy_file_spec =
     tie.close
     (tie.spec
     beyond-requires

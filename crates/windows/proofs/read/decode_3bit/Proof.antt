@@ -5,14 +5,19 @@ use Rattle.windows.specs.Workers.{InBlocks, three}
 use Rattle.windows.proofs.read.decode_3bit.Statement.{statement}
 use Rattle.windows.proofs.read.decode_3bit.Tie as tie
 
-zero-filling-requires : tie.Need-zero-filling-requires
+zero-filling-requires : tie.Need-zero_filling-requires
 zero-filling-requires c κs = subst InBlocks (sym (kind_number Dna3bit)) three
 
-same_length : tie.Need-same-length
+same_length : tie.Need-shape_of-out
 same_length c = search rules
 
 returns : tie.Need-returns
 returns c = search rules
 
-pub decode-3bit-spec : {M : Type 1} → statement M
-decode-3bit-spec = tie.close (tie.spec zero-filling-requires same_length returns)
+pub decode_3bit_spec : {M : Type 1} → statement M
+decode_3bit_spec =
+    tie.close
+    (tie.spec
+    zero-filling-requires
+    same_length
+    returns)

@@ -6,33 +6,41 @@ use Rattle.windows.proofs.rolling.prime.Statement.{statement}
 use Rattle.windows.proofs.rolling.prime.Tie as tie
 
 -- the file
-abbrev byte : tie.After-shared-slice-known → ℕ → ℕ
-byte k = file_byte k.before.args.bytes.now k.before.args.offset
+abbrev byte : tie.After-shared_slice_known-1 → ℕ → ℕ
+byte k = file_byte k.args.bytes.now k.args.offset
 
-small : (k : tie.After-shared-slice-known) (j : ℕ) → byte k j < 256
-small k j = file_small _ _ j (λ i. (k.shared-slice-known.given i).fits)
+small : (k : tie.After-shared_slice_known-1) (j : ℕ) → byte k j < 256
+small k j = file_small _ _ j (λ i. (k.shared_slice_known-1.given i).fits)
 
-returns : tie.Need-returns
+returns : tie.Need-returns-then-skip-eq0
 returns c =
-    let k = c.before in
-    (omega arith, prime_none (byte k) (small k) k.before.args.bit _ c.if1.true refl refl)
+    let k = c in
+    (omega arith, prime_none (byte k.before) (small k.before) k.args.bit _ c.if-skip-eq0.true refl refl)
 
-fetch-requires : tie.Need-fetch-requires
+fetch-requires : tie.Need-fetch-acc-requires
 fetch-requires c κs = search rules
 
-cast-acc : tie.Need-overflow-cast-acc
+cast-acc : tie.Need-overflow_cast-acc
 cast-acc c = search rules
 
-add-t9 : tie.Need-overflow-add-t9
+add-t9 : tie.Need-overflow_add-result
 add-t9 c = search rules
 
-sub-t10 : tie.Need-overflow-sub-t10
+sub-t10 : tie.Need-overflow_sub-result
 sub-t10 c = search rules
 
-returns-2 : tie.Need-returns-2
+returns-2 : tie.Need-returns
 returns-2 c =
-    let k = c.before.before in
-    (omega arith, prime_some (byte k) (small k) k.before.args.bit _ refl refl c.fetch.ensures)
+    let k = c in
+    (omega arith, prime_some (byte k.before.before) (small k.before.before) k.args.bit _ refl refl c.fetch-acc.ensures)
 
-pub prime-spec : {M : Type 1} → statement M
-prime-spec = tie.close (tie.spec returns fetch-requires cast-acc add-t9 sub-t10 returns-2)
+pub prime_spec : {M : Type 1} → statement M
+prime_spec =
+    tie.close
+    (tie.spec
+    returns
+    fetch-requires
+    cast-acc
+    add-t9
+    sub-t10
+    returns-2)

@@ -5,27 +5,32 @@ use Rattle.packing.proofs.Ends.{start_known, start_refused}
 use Rattle.packing.proofs.encoder.SequenceEncoder.new.Statement.{statement}
 use Rattle.packing.proofs.encoder.SequenceEncoder.new.Tie as tie
 
-kind-of-number-requires : tie.Need-kind-of-number-requires
+kind-of-number-requires : tie.Need-kind_of_number-requires
 kind-of-number-requires c κs = search rules
 
-enum-known-kind : tie.Need-enum-known-kind
+enum-known-kind : tie.Need-enum_known-kind
 enum-known-kind c = search rules
 
-enum-known-refusal : tie.Need-enum-known-refusal
+enum-known-refusal : tie.Need-enum_known-refusal
 enum-known-refusal c = search rules
 
-returns : tie.Need-returns
+returns : tie.Need-returns-in-Kind
 unfolding fresh_encoder
 returns c =
-    let a = c.before.before.before.before.args in
-    start_known a.alphabet a.fold _ (sym c.before.before.before.kind-of-number.ensures.0 ∙ c.before.kind.given.1)
+    let a = c.args in
+    start_known a.alphabet a.fold _ (sym c.kind_of_number.ensures.0 ∙ c.in-Kind.is)
 
-returns-2 : tie.Need-returns-2
+returns-2 : tie.Need-returns-in-Refused
 returns-2 c =
-    let a = c.before.before.before.before.args in
-    start_refused a.alphabet a.fold _ (sym c.before.before.before.kind-of-number.ensures.0 ∙ c.before.refusal.given.1)
+    let a = c.args in
+    start_refused a.alphabet a.fold _ (sym c.kind_of_number.ensures.0 ∙ c.in-Refused.is)
 
 pub new_spec : {M : Type 1} → statement M
 new_spec =
     tie.close
-    (tie.spec kind-of-number-requires enum-known-kind enum-known-refusal returns returns-2)
+    (tie.spec
+    kind-of-number-requires
+    enum-known-kind
+    enum-known-refusal
+    returns
+    returns-2)
