@@ -17,6 +17,9 @@ in_blocks Unknown h = absurd (miss (1 ∷ 2 ∷ 3 ∷ []) _ tt h)
 
 -- of these, none of the first two
 pub is_protein : (k : AlphabetType) → InBlocks k → OneOf (0 ∷ 3 ∷ 4 ∷ 5 ∷ []) (place_of k) → k ≡ Protein
+is_protein Dna2bit x h = elim x [ ]
+is_protein Ascii x h = elim x [ ]
+is_protein Unknown x h = elim x [ ]
 is_protein Dna3bit three h = absurd (miss (0 ∷ 3 ∷ 4 ∷ 5 ∷ []) _ tt h)
 is_protein DnaIupac four h = absurd (miss (0 ∷ 3 ∷ 4 ∷ 5 ∷ []) _ tt h)
 is_protein Protein five h = refl

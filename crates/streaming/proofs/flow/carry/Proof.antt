@@ -144,7 +144,7 @@ pushed c =
     let known = c in
     let l = head c in
     level_same
-    (level_fill l.loop-n.invariant.1 (shared-slice-read-push-byte known) _ refl (known.shared_slice_known-in-loop-n-1.given (from (counted l) + l.loop-n.n)).fits
+    (level_fill l.loop-n.invariant.1 (omega (arith, known.loop-n-test.true, count (counted l))) _ refl (known.shared_slice_known-in-loop-n-1.given (from (counted l) + l.loop-n.n)).fits
     (c.push_byte-bits.ensures ∙ push_byte_is _ _ (room l)))
     refl refl (omega arith)
 

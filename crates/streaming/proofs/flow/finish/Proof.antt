@@ -1,5 +1,4 @@
 use mathlib.Core.Path.{◌≡◌, refl, ap, ◌∙◌}
-use mathlib.Core.Logic.{⊎_elim}
 use mathlib.Core.List.{List}
 use Prim.Native.Nat.{ℕ, ◌+◌, ◌-◌, ◌/◌, ◌%◌, ◌^◌, ◌≤◌, ◌<◌, min}
 use native.Mathlib.Nat.{lt_of_lt_of_le}
@@ -14,6 +13,7 @@ use Rattle.streaming.proofs.Levels.{level_lt, level_fill, level_same, level_all,
 use Rattle.streaming.proofs.Blocks.{code_is}
 use Rattle.streaming.proofs.Pumping.{next_base, next_level}
 use Rattle.streaming.proofs.flow.finish.Statement.{statement}
+use Rattle.streaming.proofs.flow.finish.Lts.{then-have-b+else-taken-source, else-have-b, else-loop-n-test, then-loop-n-test+then-have-b+then-taken-source}
 use Rattle.streaming.proofs.flow.finish.Tie as tie
 
 abbrev invariant-loop : tie.invariant-loop-n
@@ -59,7 +59,7 @@ push-byte-requires c κs = search rules
 add-taken : tie.Need-overflow_add-taken invariant-loop decreases-loop
 add-taken c =
     let l = c in
-    omega (arith, shared-slice-read-push-byte c.before, (start l.before.before.before.before.before).well_formed)
+    omega (arith, l.loop-n.invariant.1.within, l.if-taken-source.false, (start l.before.before.before.before.before).well_formed)
 
 add-have : tie.Need-overflow_add-have invariant-loop decreases-loop
 add-have c = let l = c in omega (arith, l.loop-n.invariant.2)
@@ -75,21 +75,22 @@ abbrev width : Ready → ℕ
 width c = (start (head c)).args.b
 
 ready : (c : Ready)
-    → Level (start (head c)).args.s (text (head c)) c.if-have-b.acc c.if-have-b.have c.if-have-b.true (head c).loop-n.n
+    → Level (start (head c)).args.s (text (head c)) c.if-have-b.acc c.if-have-b.have c.if-have-b.taken (head c).loop-n.n
     × ((width c ≤ c.if-have-b.have) × (c.if-have-b.have < width c + 8))
 ready c =
     let l = head c in
     let inv = l.loop-n.invariant in
     let five = (start l).requires.0.0.five in
-    ⊎_elim
-    (λ w. (
-      level_same
-          (level_fill inv.1 (omega (arith, inv.1.within, w.1.left)) _ refl (w.2.given l.loop-n.taken).fits (w.3.ensures ∙ push_byte_is _ _ (room l)))
-          w.4 w.5 w.6,
-      (omega (arith, w.5, five), omega (arith, w.5, w.0.taken)),
-    ))
-    (λ w. (level_same inv.1 w.1 w.2 w.3, (omega (arith, w.2, w.0.left), omega (arith, w.2, inv.2))))
-    c.if-have-b.branch
+    elim c.if-have-b.branch [
+      then-have-b+else-taken-source w ↦ (
+        level_same
+            (level_fill inv.1 (omega (arith, inv.1.within, w.if-taken-source.false)) _ refl (w.shared_slice_known-then-have-b-1.given l.loop-n.taken).fits
+            (w.push_byte-acc.ensures ∙ push_byte_is _ _ (room l)))
+            w.acc-is w.have-is w.taken-is,
+        (omega (arith, w.have-is, five), omega (arith, w.have-is, w.if-have-b.true)),
+      )
+      | else-have-b w ↦ (level_same inv.1 w.acc-is w.have-is w.taken-is, (omega (arith, w.have-is, w.if-have-b.false), omega (arith, w.have-is, inv.2)))
+    ]
 
 sub-have : tie.Need-overflow_sub-have invariant-loop decreases-loop
 sub-have c = (ready c.before).1.0
@@ -146,16 +147,17 @@ loop-again c =
 -- ---- the end
 
 -- the count is the greatest
-count : (c : tie.Left-loop-n invariant-loop decreases-loop) → c.before.loop.n ≡ bases_of (start c.before).args.s (text c.before) (length (start c.before).args.out.now)
+count : (c : tie.Left-loop-n invariant-loop decreases-loop) → c.before.loop-n.n ≡ bases_of (start c.before).args.s (text c.before) (length (start c.before).args.out.now)
 count c =
     let l = c.before in
-    let inv = l.loop.invariant in
+    let inv = l.loop-n.invariant in
     let room = length (start l).args.out.now in
     let pre = (start l).requires.0 in
-    ⊎_elim
-    (λ w. level_all inv.1 room inv.2 (omega (arith, inv.0, w.left, limit l)))
-    (λ w. level_dry inv.1 room pre.1 inv.2 (omega (arith, w.1.taken, pre.0.wide)) w.2.taken (omega (arith, inv.0, limit l)))
-    c.loop-test.branch
+    elim c.loop-n-test.branch [
+      else-loop-n-test w ↦ level_all inv.1 room inv.2 (omega (arith, inv.0, w.loop-n-test.false, limit l))
+      | then-loop-n-test+then-have-b+then-taken-source w ↦
+        level_dry inv.1 room pre.1 inv.2 (omega (arith, w.if-have-b.true, pre.0.wide)) w.if-taken-source.true (omega (arith, inv.0, limit l))
+    ]
 
 answered-requires : tie.Need-answered-requires invariant-loop decreases-loop
 answered-requires c κs =

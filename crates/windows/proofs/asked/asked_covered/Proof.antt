@@ -16,7 +16,7 @@ abbrev bases : (c : tie.After-bits_per_symbol-b) → tie.In-Bases
 bases c = c.before.before.before
 
 abbrev start : (c : tie.After-bits_per_symbol-b) → tie.Start
-start c = (bases c).before.before.before.before
+start c = (bases c).before.before.before
 
 window : (c : tie.After-bits_per_symbol-b) → Placed (start c).args.alphabet (start c).args.offset (start c).args.start (start c).args.end (bases c).in-Bases.count
 window c =

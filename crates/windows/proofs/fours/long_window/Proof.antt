@@ -17,8 +17,8 @@ abbrev start : (h : tie.After-least-head) → tie.Start
 start h = h.before.before.before
 
 -- the whole bytes end within the window
-ends : (f : tie.After-whole_bytes) → (let h = head (written f) in h.least.result + f.whole_bytes.result * 4 ≤ (start h).args.count)
-ends f = let h = head (written f) in blocks_fit 4 (start h).args.start _ h.least.result _ (lit< tt) h.least.ensures f.whole_bytes.ensures.0
+ends : (f : tie.After-whole_bytes) → (let h = head (written f) in h.least-head.result + f.whole_bytes.result * 4 ≤ (start h).args.count)
+ends f = let h = head (written f) in blocks_fit 4 (start h).args.start _ h.least-head.result _ (lit< tt) h.least-head.ensures f.whole_bytes.ensures.0
 
 sub-least : tie.Need-overflow_sub-start
 sub-least c = search rules

@@ -10,7 +10,7 @@ abbrev counted : (z : tie.Else-count-eq0) → tie.In-Bases
 counted z = z.before
 
 abbrev start : (z : tie.Else-count-eq0) → tie.Start
-start z = (counted z).before.before.before.before
+start z = (counted z).before.before.before
 
 abbrev count : (z : tie.Else-count-eq0) → ℕ
 count z = (counted z).in-Bases.count

@@ -15,7 +15,7 @@ abbrev counted : (z : tie.Else-count-eq0) → tie.In-Bases
 counted z = z.before
 
 abbrev answer : (z : tie.Else-count-eq0) → tie.After-asked_covered-told
-answer z = (counted z).before.before
+answer z = (counted z).before
 
 abbrev start : (z : tie.Else-count-eq0) → tie.Start
 start z = (answer z).before.before.before
@@ -24,10 +24,10 @@ abbrev count : tie.Else-count-eq0 → ℕ
 count z = (counted z).in-Bases.count
 
 accepted : (z : tie.Else-count-eq0) → (let a = (start z).args in
-    Accepted a.alphabet a.bytes.now a.byte-offset a.start a.end (length a.out.now) (count z))
+    Accepted a.alphabet a.bytes.now a.byte_offset a.start a.end (length a.out.now) (count z))
 accepted z =
     let a = (start z).args in
-    lent-accepted a.alphabet a.bytes.now a.byte-offset a.start a.end (length a.out.now) (answer z).asked_covered-told.result (count z)
+    lent-accepted a.alphabet a.bytes.now a.byte_offset a.start a.end (length a.out.now) (answer z).asked_covered-told.result (count z)
     (answer z).asked_covered-told.ensures (counted z).in-Bases.is z.if-count-eq0.false
 
 -- the place where the kind is known, from that where the codes were looked at; and what was found there
@@ -35,12 +35,12 @@ abbrev kind-known : tie.After-own-first → tie.After-kind_of-kind
 kind-known w = w.before.before
 
 first-is : (w : tie.After-own-first)
-    → (let a = (start (kind-known w).before).args in w.own-first.result ≡ first_lacking_of (numbered a.alphabet) a.bytes.now a.byte-offset a.start a.end)
+    → (let a = (start (kind-known w).before).args in w.own-first.result ≡ first_lacking_of (numbered a.alphabet) a.bytes.now a.byte_offset a.start a.end)
 first-is w =
     let k = kind-known w in
     let a = (start k.before).args in
     w.own-first.ensures.0
-    ∙ ap₂ (λ (x : AlphabetType) (i : ℕ). first_lacking_of (coding x) a.bytes.now a.byte-offset a.start i) k.kind_of-kind.ensures (accepted k.before).whole
+    ∙ ap₂ (λ (x : AlphabetType) (i : ℕ). first_lacking_of (coding x) a.bytes.now a.byte_offset a.start i) k.kind_of-kind.ensures (accepted k.before).whole
 
 asked-covered-requires : tie.Need-asked_covered-told-requires
 asked-covered-requires c κs = search rules
@@ -56,9 +56,9 @@ unfolding covered_memory
 returns c =
     let q = c in
     let a = q.args in
-    let told = looked-refused a.alphabet a.bytes.now a.byte-offset a.start a.end (length a.out.now) q.asked_covered-told.result
+    let told = looked-refused a.alphabet a.bytes.now a.byte_offset a.start a.end (length a.out.now) q.asked_covered-told.result
     q.asked_covered-told.ensures _ c.in_default.is in
-    (told, refused-after a.alphabet a.bytes.now a.byte-offset a.start a.out.now _ _ (sym told ∙ c.in_default.is))
+    (told, refused-after a.alphabet a.bytes.now a.byte_offset a.start a.out.now _ _ (sym told ∙ c.in_default.is))
 
 returns-2 : tie.Need-returns-then-count-eq0
 unfolding covered_memory
@@ -66,9 +66,9 @@ returns-2 c =
     let n = c in
     let q = n in
     let a = q.args in
-    let told = looked-empty a.alphabet a.bytes.now a.byte-offset a.start a.end (length a.out.now) q.asked_covered-told.result
+    let told = looked-empty a.alphabet a.bytes.now a.byte_offset a.start a.end (length a.out.now) q.asked_covered-told.result
     q.asked_covered-told.ensures _ n.in-Bases.is c.if-count-eq0.true in
-    (sym n.in-Bases.is ∙ told, empty-after a.alphabet a.bytes.now a.byte-offset a.start a.out.now _ _ (sym told ∙ n.in-Bases.is) c.if-count-eq0.true)
+    (sym n.in-Bases.is ∙ told, empty-after a.alphabet a.bytes.now a.byte_offset a.start a.out.now _ _ (sym told ∙ n.in-Bases.is) c.if-count-eq0.true)
 
 kind-of-requires : tie.Need-kind_of-kind-requires
 kind-of-requires c κs = search rules
@@ -79,7 +79,7 @@ own-requires c κs =
     let z = k in
     let a = (start z.before.before).args in
     let w = accepted z.before.before in
-    (w.fits, λ e. ap₂ (λ (x : AlphabetType) (i : ℕ). covers (coding x) a.bytes.now a.byte-offset a.start i) k.kind_of-kind.ensures w.whole ∙ w.all)
+    (w.fits, λ e. ap₂ (λ (x : AlphabetType) (i : ℕ). covers (coding x) a.bytes.now a.byte_offset a.start i) k.kind_of-kind.ensures w.whole ∙ w.all)
 
 same_length : tie.Need-shape_of-out-then-first-end
 same_length c = search rules
@@ -92,13 +92,13 @@ returns-3 c =
     let z = k in
     let a = (start z.before).args in
     let first = w.own-first.result in
-    let told = looked_lacking a.alphabet a.bytes.now a.byte-offset a.start a.end (length a.out.now) (answer z.before).asked_covered-told.result
+    let told = looked_lacking a.alphabet a.bytes.now a.byte_offset a.start a.end (length a.out.now) (answer z.before).asked_covered-told.result
     (answer z.before).asked_covered-told.ensures (count z.before) (counted z.before).in-Bases.is first (first-is w.before.before.before) c.if-first-end.true in (
       told,
       w.own-first.ensures.1
-          ∙ looked_kept true (coding k.kind_of-kind.result) a.bytes.now a.byte-offset a.start (count z.before) a.out.now first w.own-first.ensures.0
+          ∙ looked_kept true (coding k.kind_of-kind.result) a.bytes.now a.byte_offset a.start (count z.before) a.out.now first w.own-first.ensures.0
           (omega (arith, c.if-first-end.true, (accepted z.before).whole))
-          ∙ refused-after a.alphabet a.bytes.now a.byte-offset a.start a.out.now _ (by 18 (first ∷ [])) (sym told),
+          ∙ refused-after a.alphabet a.bytes.now a.byte_offset a.start a.out.now _ (by 18 (first ∷ [])) (sym told),
     )
 
 same-length-2 : tie.Need-shape_of-out
@@ -113,12 +113,12 @@ returns-4 c =
     let a = (start z.before).args in
     let first = w.own-first.result in
     let is = (counted z.before).in-Bases.is in
-    let told = looked_bases a.alphabet a.bytes.now a.byte-offset a.start a.end (length a.out.now) (answer z.before).asked_covered-told.result
+    let told = looked_bases a.alphabet a.bytes.now a.byte_offset a.start a.end (length a.out.now) (answer z.before).asked_covered-told.result
     (answer z.before).asked_covered-told.ensures (count z.before) is first (first-is w.before.before.before) c.if-first-end.false in (
       sym is ∙ told,
-      bases_after a.alphabet a.bytes.now a.byte-offset a.start a.out.now _ k.kind_of-kind.result (count z.before) _ (sym told ∙ is) k.kind_of-kind.ensures
+      bases_after a.alphabet a.bytes.now a.byte_offset a.start a.out.now _ k.kind_of-kind.result (count z.before) _ (sym told ∙ is) k.kind_of-kind.ensures
           (w.own-first.ensures.1
-          ∙ looked_put true (coding k.kind_of-kind.result) a.bytes.now a.byte-offset a.start (count z.before) a.out.now first w.own-first.ensures.0
+          ∙ looked_put true (coding k.kind_of-kind.result) a.bytes.now a.byte_offset a.start (count z.before) a.out.now first w.own-first.ensures.0
           (omega (arith, c.if-first-end.false, (accepted z.before).whole))),
     )
 

@@ -80,7 +80,7 @@ refill-requires c κs =
     let p = c in
     let near : ((start p.before.before).args.start + l.n) * width p.before.before ≤ 2 ^ 63 = bit_fits (omega (arith, (start p.before.before).requires.1.near)) (omega (arith, five p.before.before)) in (
       l.invariant.1,
-      omega (arith, near, l.invariant.2.up-to, l.invariant.1),
+      omega (arith, near, l.invariant.2.up_to, l.invariant.1),
       omega (arith, five p.before.before),
     )
 
