@@ -4,35 +4,35 @@ use Rattle.fantailclock.proofs.Told.{bits_known, bits-refused}
 use Rattle.fantailclock.proofs.kinds.fc_bits_per_symbol.Statement.{statement}
 use Rattle.fantailclock.proofs.kinds.fc_bits_per_symbol.Tie as tie
 
-kind-of-number-requires : tie.Need-kind-of-number-requires
+kind-of-number-requires : tie.Need-kind_of_number-requires
 kind-of-number-requires c κs = search rules
 
-enum-known-kind : tie.Need-enum-known-kind
+enum-known-kind : tie.Need-enum_known-kind
 enum-known-kind c = search rules
 
-bits-per-symbol-requires : tie.Need-bits-per-symbol-requires
+bits-per-symbol-requires : tie.Need-bits_per_symbol-requires
 bits-per-symbol-requires c κs = search rules
 
-enum-known-refusal : tie.Need-enum-known-refusal
+enum-known-refusal : tie.Need-enum_known-refusal
 enum-known-refusal c = search rules
 
-number-of-requires : tie.Need-number-of-requires
+number-of-requires : tie.Need-number_of-requires
 number-of-requires c κs = search rules
 
-returns : tie.Need-returns
+returns : tie.Need-returns-in-Kind
 returns c =
-    let n = c.before.before.before.before in
-    bits_known n.before.args.alphabet _ c.bits-per-symbol.result (sym n.kind-of-number.ensures.0 ∙ c.before.before.kind.given.1)
-    c.bits-per-symbol.ensures
+    let n = c in
+    bits_known n.args.alphabet _ c.bits_per_symbol.result (sym n.kind_of_number.ensures.0 ∙ c.in-Kind.is)
+    c.bits_per_symbol.ensures
 
-returns-2 : tie.Need-returns-2
+returns-2 : tie.Need-returns-in-Refused
 returns-2 c =
-    let n = c.before.before.before.before in
-    bits-refused n.before.args.alphabet _ c.number_of_lem.result (sym n.kind-of-number.ensures.0 ∙ c.before.before.refusal.given.1)
-    c.number_of_lem.ensures
+    let n = c in
+    bits-refused n.args.alphabet _ c.number_of.result (sym n.kind_of_number.ensures.0 ∙ c.in-Refused.is)
+    c.number_of.ensures
 
-pub fc-bits-per-symbol-spec : {M : Type 1} → statement M
-fc-bits-per-symbol-spec =
+pub fc_bits_per_symbol_spec : {M : Type 1} → statement M
+fc_bits_per_symbol_spec =
     tie.close
     (tie.spec
     kind-of-number-requires

@@ -6,21 +6,26 @@ use Rattle.fantailclock.specs.Shapes.{covered}
 use Rattle.fantailclock.proofs.reads.fc_decode_covered.Statement.{statement}
 use Rattle.fantailclock.proofs.reads.fc_decode_covered.Tie as tie
 
-decode-covered-requires : tie.Need-decode-covered-requires
+decode-covered-requires : tie.Need-decode_covered-requires
 decode-covered-requires c κs = search rules
 
-covered-of-requires : tie.Need-covered-of-requires
+covered-of-requires : tie.Need-covered_of-requires
 covered-of-requires c κs = search rules
 
-same_length : tie.Need-same-length
+same_length : tie.Need-shape_of-out
 same_length c = search rules
 
 returns : tie.Need-returns
 returns c = (
-  c.covered_of.ensures ∙ ap (λ (x : Read). covered (read_reply x)) c.before.before.before.decode-covered.ensures.0,
-  c.before.before.before.decode-covered.ensures.1,
+  c.covered_of.ensures ∙ ap (λ (x : Read). covered (read_reply x)) c.decode_covered.ensures.0,
+  c.decode_covered.ensures.1,
 )
 
-pub fc-decode-covered-spec : {M : Type 1} → statement M
-fc-decode-covered-spec =
-    tie.close (tie.spec decode-covered-requires covered-of-requires same_length returns)
+pub fc_decode_covered_spec : {M : Type 1} → statement M
+fc_decode_covered_spec =
+    tie.close
+    (tie.spec
+    decode-covered-requires
+    covered-of-requires
+    same_length
+    returns)

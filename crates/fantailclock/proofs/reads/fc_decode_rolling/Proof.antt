@@ -6,21 +6,26 @@ use Rattle.fantailclock.specs.Shapes.{count}
 use Rattle.fantailclock.proofs.reads.fc_decode_rolling.Statement.{statement}
 use Rattle.fantailclock.proofs.reads.fc_decode_rolling.Tie as tie
 
-decode-rolling-requires : tie.Need-decode-rolling-requires
+decode-rolling-requires : tie.Need-decode_rolling-requires
 decode-rolling-requires c κs = search rules
 
-count-of-requires : tie.Need-count-of-requires
+count-of-requires : tie.Need-count_of-requires
 count-of-requires c κs = search rules
 
-same_length : tie.Need-same-length
+same_length : tie.Need-shape_of-out
 same_length c = search rules
 
 returns : tie.Need-returns
 returns c = (
-  c.count_of.ensures ∙ ap (λ (x : Read). count (read_reply x)) c.before.before.before.decode-rolling.ensures.0,
-  c.before.before.before.decode-rolling.ensures.1,
+  c.count_of.ensures ∙ ap (λ (x : Read). count (read_reply x)) c.decode_rolling.ensures.0,
+  c.decode_rolling.ensures.1,
 )
 
-pub fc-decode-rolling-spec : {M : Type 1} → statement M
-fc-decode-rolling-spec =
-    tie.close (tie.spec decode-rolling-requires count-of-requires same_length returns)
+pub fc_decode_rolling_spec : {M : Type 1} → statement M
+fc_decode_rolling_spec =
+    tie.close
+    (tie.spec
+    decode-rolling-requires
+    count-of-requires
+    same_length
+    returns)

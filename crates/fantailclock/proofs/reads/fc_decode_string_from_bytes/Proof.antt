@@ -6,21 +6,26 @@ use Rattle.fantailclock.specs.Shapes.{count}
 use Rattle.fantailclock.proofs.reads.fc_decode_string_from_bytes.Statement.{statement}
 use Rattle.fantailclock.proofs.reads.fc_decode_string_from_bytes.Tie as tie
 
-decode-string-from-bytes-requires : tie.Need-decode-string-from-bytes-requires
+decode-string-from-bytes-requires : tie.Need-decode_string_from_bytes-requires
 decode-string-from-bytes-requires c κs = search rules
 
-count-of-requires : tie.Need-count-of-requires
+count-of-requires : tie.Need-count_of-requires
 count-of-requires c κs = search rules
 
-same_length : tie.Need-same-length
+same_length : tie.Need-shape_of-out
 same_length c = search rules
 
 returns : tie.Need-returns
 returns c = (
-  c.count_of.ensures ∙ ap (λ (x : Read). count (read_reply x)) c.before.before.before.decode-string-from-bytes.ensures.0,
-  c.before.before.before.decode-string-from-bytes.ensures.1,
+  c.count_of.ensures ∙ ap (λ (x : Read). count (read_reply x)) c.decode_string_from_bytes.ensures.0,
+  c.decode_string_from_bytes.ensures.1,
 )
 
-pub fc-decode-string-from-bytes-spec : {M : Type 1} → statement M
-fc-decode-string-from-bytes-spec =
-    tie.close (tie.spec decode-string-from-bytes-requires count-of-requires same_length returns)
+pub fc_decode_string_from_bytes_spec : {M : Type 1} → statement M
+fc_decode_string_from_bytes_spec =
+    tie.close
+    (tie.spec
+    decode-string-from-bytes-requires
+    count-of-requires
+    same_length
+    returns)

@@ -10,71 +10,71 @@ use Rattle.fantailclock.proofs.shapes.details_of.Tie as tie
 found : {r q : Refusal} → r ≡ q → details (refusal_reply q) ≡ details (refusal_reply r)
 found e = ap (λ (x : Refusal). details (refusal_reply x)) (sym e)
 
-enum_told : tie.Need-enum-told
+enum_told : tie.Need-enum_told-1
 enum_told c = search rules
 
-enum-told-2 : tie.Need-enum-told-2
+enum-told-2 : tie.Need-enum_told-in-TooFar
 enum-told-2 c = search rules
 
-enum-told-3 : tie.Need-enum-told-3
+enum-told-3 : tie.Need-enum_told-in-Uncovered
 enum-told-3 c = search rules
 
-enum-told-4 : tie.Need-enum-told-4
+enum-told-4 : tie.Need-enum_told-in-ShortMemory
 enum-told-4 c = search rules
 
-enum-known-refusal : tie.Need-enum-known-refusal
+enum-known-refusal : tie.Need-enum_known-refusal
 enum-known-refusal c = search rules
 
-cast-t10 : tie.Need-overflow-cast-t10
+cast-t10 : tie.Need-overflow_cast-result
 cast-t10 c = search rules
 
-enum-told-5 : tie.Need-enum-told-5
+enum-told-5 : tie.Need-enum_told-in-BadSkip
 enum-told-5 c = search rules
 
-enum-known-refusal-2 : tie.Need-enum-known-refusal-2
+enum-known-refusal-2 : tie.Need-enum_known-refusal-in-Outstanding-1
 enum-known-refusal-2 c = search rules
 
-enum-told-6 : tie.Need-enum-told-6
+enum-told-6 : tie.Need-enum_told-in-NoAlphabet
 enum-told-6 c = search rules
 
-enum-told-7 : tie.Need-enum-told-7
+enum-told-7 : tie.Need-enum_told-in-TooWide
 enum-told-7 c = search rules
 
-enum-known-refusal-3 : tie.Need-enum-known-refusal-3
+enum-known-refusal-3 : tie.Need-enum_known-refusal-in-NoSymbol-1
 enum-known-refusal-3 c = search rules
 
-returns : tie.Need-returns
-returns c = found c.enum_told.given.1
+returns : tie.Need-returns-in-Unsound
+returns c = found c.in-Unsound.is
 
-returns-2 : tie.Need-returns-2
-returns-2 c = found c.enum-told2.given.1
+returns-2 : tie.Need-returns-in-TooFar
+returns-2 c = found c.in-TooFar.is
 
-returns-3 : tie.Need-returns-3
-returns-3 c = found c.enum-told3.given.1
+returns-3 : tie.Need-returns-in-Uncovered
+returns-3 c = found c.in-Uncovered.is
 
-returns-4 : tie.Need-returns-4
-returns-4 c = found c.enum-told4.given.1
+returns-4 : tie.Need-returns-in-ShortMemory
+returns-4 c = found c.in-ShortMemory.is
 
-returns-5 : tie.Need-returns-5
-returns-5 c = found c.before.refusal.given.1
+returns-5 : tie.Need-returns-in-NonMember
+returns-5 c = found c.in-NonMember.is
 
-returns-6 : tie.Need-returns-6
-returns-6 c = found c.enum-told5.given.1
+returns-6 : tie.Need-returns-in-BadSkip
+returns-6 c = found c.in-BadSkip.is
 
-returns-7 : tie.Need-returns-7
-returns-7 c = found c.before.refusal2.given.1
+returns-7 : tie.Need-returns-in-Outstanding
+returns-7 c = found c.in-Outstanding.is
 
-returns-8 : tie.Need-returns-8
-returns-8 c = found c.enum-told6.given.1
+returns-8 : tie.Need-returns-in-NoAlphabet
+returns-8 c = found c.in-NoAlphabet.is
 
-returns-9 : tie.Need-returns-9
-returns-9 c = found c.enum-told7.given.1
+returns-9 : tie.Need-returns-in-TooWide
+returns-9 c = found c.in-TooWide.is
 
-returns-10 : tie.Need-returns-10
-returns-10 c = found c.before.refusal3.given.1
+returns-10 : tie.Need-returns-in-NoSymbol
+returns-10 c = found c.in-NoSymbol.is
 
-pub details-of-spec : {M : Type 1} → statement M
-details-of-spec =
+pub details_of_spec : {M : Type 1} → statement M
+details_of_spec =
     tie.close
     (tie.spec
     enum_told

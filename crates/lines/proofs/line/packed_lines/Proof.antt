@@ -141,9 +141,7 @@ put-line-requires-2 c κs =
 -- where the count's line was put: how much memory is left
 module _ (q : tie.After-put_line-third) where
   abbrev first : tie.After-put_line-second
-  first =
-      let lent = q in
-      lent.before.before.before
+  first = q.before.before.before.before.before
 
   left_over : q.put_line-third.result + 2 * length (packed (known first)) + 1 ≤ length q.put_line-third.new.out
   left_over =
