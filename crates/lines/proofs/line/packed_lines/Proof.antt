@@ -176,7 +176,7 @@ returns-3 c =
     let e = fitting (first q.before.before.before.before.before.before.before.before.before.before) in
     let b = known (first q.before.before.before.before.before.before.before.before.before.before) in
     packed-made (kind b) (name b) (is_name b) (count b) (digits b) (from b) (is-spelt b) (packed b) (memory b)
-    p.last.1.1.0 p2.new.out h.new.out z.new.out _ _ p.result p2.result h.result z.result (room e)
+    p.new.out p2.new.out h.new.out z.new.out _ _ p.result p2.result h.result z.result (room e)
     (part_name (kind b) (name b) (is_name b)) p.ensures.0 p.ensures.1 (second b) p2.ensures.0 p2.ensures.1
     h.ensures.0 h.ensures.1 z.ensures.0 z.ensures.1
 
