@@ -5,7 +5,7 @@ use mathlib.Core.Path.{◌≡◌, refl, sym, ap, ap₂, ◌∙◌}
 use mathlib.Core.Bool.{Bool, true, cond}
 use mathlib.Core.List.{List, [], ◌∷◌, ◌++◌}
 use Prim.Native.Nat.{ℕ}
-use denote.Ref.{Bor}
+use denote.Ref.{Bor, MutBor}
 use lib.ListN.{length, take}
 use Rattle.alphabet.specs.Names.{known, kind_of}
 use Rattle.packing.specs.Answers.{updated_reply, finalized_reply}
@@ -24,13 +24,17 @@ use Rattle.record.proofs.Whole.{accepted_nil}
 abbrev pub at_some : List ℕ → Bor (List ℕ)
 at_some l = record { ref_ptr = (0, 0); now = l }
 
+-- and memory that is lent to be written
+abbrev pub at_some_mut : List ℕ → MutBor (List ℕ)
+at_some_mut l = record { ref_ptr = (0, 0); ghost_name = 0; now = l }
+
 abbrev pub made_update : SequenceEncoder → List ℕ → List ℕ → UpdateCall
 made_update s piece memory =
     record {
       κs = ([], ([], tt));
-      args = (s, (at_some piece, (at_some memory, tt)));
+      args = (s, (at_some piece, (at_some_mut memory, tt)));
       result = update_at s piece (length memory);
-      exit = (s, (at_some piece, (at_some (update_memory s piece memory), tt)));
+      exit = (s, (at_some piece, (at_some_mut (update_memory s piece memory), tt)));
       met = (refl, refl);
     }
 
@@ -38,9 +42,9 @@ abbrev made_finalize : SequenceEncoder → List ℕ → FinalizeCall
 made_finalize s memory =
     record {
       κs = ([], tt);
-      args = (s, (at_some memory, tt));
+      args = (s, (at_some_mut memory, tt));
       result = finalize_at s (length memory);
-      exit = (s, (at_some (finalize_memory s memory), tt));
+      exit = (s, (at_some_mut (finalize_memory s memory), tt));
       met = (refl, refl);
     }
 

@@ -24,7 +24,7 @@ use Rattle.record.specs.Made.{EncodeCall}
 use Rattle.record.specs.EncoderLists.{EncoderList, alphabet_in, fold_in, Finished, text_in, bytes_in}
 use Rattle.record.specs.Record.{alphabet_for, fold_for, text_for, before, AtOnce}
 use Rattle.record.proofs.Tallies.{fresh-tally}
-use Rattle.record.proofs.Every.{at_some, every-finished}
+use Rattle.record.proofs.Every.{at_some, at_some_mut, every-finished}
 
 -- ---- `encode_sequence`
 
@@ -32,9 +32,9 @@ abbrev made_encode : ℕ → Bool → List ℕ → List ℕ → EncodeCall
 made_encode alphabet fold text memory =
     record {
       κs = ([], ([], tt));
-      args = (alphabet, (fold, (at_some text, (at_some memory, tt))));
+      args = (alphabet, (fold, (at_some text, (at_some_mut memory, tt))));
       result = encode_at alphabet fold text (length memory);
-      exit = (alphabet, (fold, (at_some text, (at_some (encode_memory alphabet fold text memory), tt))));
+      exit = (alphabet, (fold, (at_some text, (at_some_mut (encode_memory alphabet fold text memory), tt))));
       met = (refl, refl);
     }
 
