@@ -33,8 +33,7 @@ fn refused_by(refusal: Refusal) -> Packed
 }
 
 // The first byte and the end of the bytes that hold the bases from `start` to `end`.
-#[unsafe(no_mangle)]
-pub extern "C" fn fc_byte_range_for_bases(start: u64, end: u64, bits: u64) -> Range
+pub fn fc_byte_range_for_bases(start: u64, end: u64, bits: u64) -> Range
     ensures { result ≡ range (range_reply (range_at start end bits)) }
 {
     match byte_range_for_bases(start as usize, end as usize, bits as usize) {
@@ -52,13 +51,7 @@ pub extern "C" fn fc_byte_range_for_bases(start: u64, end: u64, bits: u64) -> Ra
 }
 
 // A text packed whole.
-#[unsafe(no_mangle)]
-pub extern "C" fn fc_encode_sequence(
-    alphabet: u64,
-    fold: u64,
-    text: &[u8],
-    out: &mut [u8],
-) -> Packed
+pub fn fc_encode_sequence(alphabet: u64, fold: u64, text: &[u8], out: &mut [u8]) -> Packed
     ensures value { result ≡ packed (encoded_reply (encode_at alphabet (chosen fold) text.now (length out.old))) }
     ensures memory { out.new ≡ encode_memory alphabet (chosen fold) text.now out.old }
 {
@@ -180,8 +173,7 @@ fn state_of(state: Encoder) -> State
 }
 
 // An encoder that has seen nothing; a refused start echoes its arguments as they came, so that the state is refused again.
-#[unsafe(no_mangle)]
-pub extern "C" fn fc_encoder_new(alphabet: u64, fold: u64) -> EncoderStarted
+pub fn fc_encoder_new(alphabet: u64, fold: u64) -> EncoderStarted
     ensures { result ≡ encoder_started alphabet fold }
 {
     match SequenceEncoder::new(alphabet, chosen_by(fold)) {
@@ -225,8 +217,7 @@ fn updated_of(state: Encoder, answer: packing::Updated) -> Updated
 }
 
 // What `fc_encoder_update` would answer with memory of `room` bytes; none is lent.
-#[unsafe(no_mangle)]
-pub extern "C" fn fc_encoder_ask(state: Encoder, piece: &[u8], room: u64) -> Updated
+pub fn fc_encoder_ask(state: Encoder, piece: &[u8], room: u64) -> Updated
     ensures { result ≡ encoder_updated state piece.now room }
 {
     let stands = state_of(state);
@@ -241,8 +232,7 @@ pub extern "C" fn fc_encoder_ask(state: Encoder, piece: &[u8], room: u64) -> Upd
 }
 
 // A piece packed behind what pends.
-#[unsafe(no_mangle)]
-pub extern "C" fn fc_encoder_update(state: Encoder, piece: &[u8], out: &mut [u8]) -> Updated
+pub fn fc_encoder_update(state: Encoder, piece: &[u8], out: &mut [u8]) -> Updated
     ensures value { result ≡ encoder_updated state piece.now (length out.old) }
     ensures memory { out.new ≡ encoder_update_memory state piece.now out.old }
 {
@@ -258,8 +248,7 @@ pub extern "C" fn fc_encoder_update(state: Encoder, piece: &[u8], out: &mut [u8]
 }
 
 // The last byte, where bits pend.
-#[unsafe(no_mangle)]
-pub extern "C" fn fc_encoder_finalize(state: Encoder, out: &mut [u8]) -> Packed
+pub fn fc_encoder_finalize(state: Encoder, out: &mut [u8]) -> Packed
     ensures value { result ≡ packed (finalize_told state (length out.old)) }
     ensures memory { out.new ≡ encoder_finalize_memory state out.old }
 {

@@ -44,8 +44,7 @@ fn state_of(state: Guesser) -> State
 }
 
 // A guesser that has seen nothing.
-#[unsafe(no_mangle)]
-pub extern "C" fn fc_guesser_new(fold: u64) -> Guesser
+pub fn fc_guesser_new(fold: u64) -> Guesser
     ensures { result ≡ outside (fresh_guesser (chosen fold)) }
 {
     guesser_of(AlphabetGuesser::new(chosen_by(fold)))
@@ -53,8 +52,7 @@ pub extern "C" fn fc_guesser_new(fold: u64) -> Guesser
 
 // The state after a text. A mask outside 16 to 31, 64 bits wide as it comes, is refused by 1, and so is a `fold` above 1. The choice that is handed back is the
 // number that came: read from the next state it would be loaded together with the mask, which was stored by itself a moment before, and short texts would wait.
-#[unsafe(no_mangle)]
-pub extern "C" fn fc_guesser_update(state: Guesser, text: &[u8]) -> Guessing
+pub fn fc_guesser_update(state: Guesser, text: &[u8]) -> Guessing
     ensures { result ≡ guesser_updated state text.now }
 {
     let stands = state_of(state);
@@ -80,8 +78,7 @@ pub extern "C" fn fc_guesser_update(state: Guesser, text: &[u8]) -> Guessing
 }
 
 // The number of the alphabet guessed.
-#[unsafe(no_mangle)]
-pub extern "C" fn fc_guesser_guess(state: Guesser) -> Number
+pub fn fc_guesser_guess(state: Guesser) -> Number
     ensures { result ≡ number (guesser_told state) }
 {
     let stands = state_of(state);
@@ -104,8 +101,7 @@ pub extern "C" fn fc_guesser_guess(state: Guesser) -> Number
 }
 
 // The number of the alphabet guessed for a whole text.
-#[unsafe(no_mangle)]
-pub extern "C" fn fc_guess_alphabet(fold: u64, text: &[u8]) -> Number
+pub fn fc_guess_alphabet(fold: u64, text: &[u8]) -> Number
     ensures { result ≡ number (guessed_told fold text.now) }
 {
     Number {

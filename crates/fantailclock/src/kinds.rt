@@ -10,16 +10,14 @@ use crate::shapes::{Count, Number, number_of};
 use alphabet::{Named, contains, kind_of_number, later_alphabet};
 
 // The version of this boundary; a change of a struct, or of what a function takes or answers, raises it.
-#[unsafe(no_mangle)]
-pub extern "C" fn fc_abi_version() -> u64
+pub fn fc_abi_version() -> u64
     ensures { result ≡ 4 }
 {
     4
 }
 
 // The bits per symbol.
-#[unsafe(no_mangle)]
-pub extern "C" fn fc_bits_per_symbol(alphabet: u64) -> Number
+pub fn fc_bits_per_symbol(alphabet: u64) -> Number
     ensures { result ≡ number (bits_told alphabet) }
 {
     match kind_of_number(alphabet) {
@@ -35,8 +33,7 @@ pub extern "C" fn fc_bits_per_symbol(alphabet: u64) -> Number
 }
 
 // 1 for a member, else 0; a number above 255 is no byte and so no member.
-#[unsafe(no_mangle)]
-pub extern "C" fn fc_contains(alphabet: u64, byte: u64) -> Number
+pub fn fc_contains(alphabet: u64, byte: u64) -> Number
     ensures { result ≡ number (contains_told alphabet byte) }
 {
     match kind_of_number(alphabet) {
@@ -62,8 +59,7 @@ pub extern "C" fn fc_contains(alphabet: u64, byte: u64) -> Number
 }
 
 // The number of the later of two alphabets.
-#[unsafe(no_mangle)]
-pub extern "C" fn fc_later_alphabet(one: u64, other: u64) -> Number
+pub fn fc_later_alphabet(one: u64, other: u64) -> Number
     ensures { result ≡ number (named_reply (later_at one other)) }
 {
     match later_alphabet(one, other) {
@@ -79,8 +75,7 @@ pub extern "C" fn fc_later_alphabet(one: u64, other: u64) -> Number
 }
 
 // The display name at the front of `out`, and its length.
-#[unsafe(no_mangle)]
-pub extern "C" fn fc_display_name(alphabet: u64, out: &mut [u8]) -> Count
+pub fn fc_display_name(alphabet: u64, out: &mut [u8]) -> Count
     ensures value { result ≡ count (name_told alphabet (length out.old)) }
     ensures memory { out.new ≡ name_memory alphabet out.old }
 {

@@ -45,8 +45,7 @@ fn covered_of(read: Read) -> Covered
 }
 
 // The bases from `start` to `end` of the file of which `bytes` are the bytes from `byte_offset` on; other bytes read as zero.
-#[unsafe(no_mangle)]
-pub extern "C" fn fc_decode_substring_from_bytes_at_offset(
+pub fn fc_decode_substring_from_bytes_at_offset(
     alphabet: u64,
     bytes: &[u8],
     byte_offset: usize,
@@ -61,8 +60,7 @@ pub extern "C" fn fc_decode_substring_from_bytes_at_offset(
 }
 
 // The same where the lent bytes are the file's first.
-#[unsafe(no_mangle)]
-pub extern "C" fn fc_decode_substring_from_bytes(
+pub fn fc_decode_substring_from_bytes(
     alphabet: u64,
     bytes: &[u8],
     start: usize,
@@ -76,8 +74,7 @@ pub extern "C" fn fc_decode_substring_from_bytes(
 }
 
 // The first `seq_len` bases.
-#[unsafe(no_mangle)]
-pub extern "C" fn fc_decode_string_from_bytes(
+pub fn fc_decode_string_from_bytes(
     alphabet: u64,
     bytes: &[u8],
     seq_len: usize,
@@ -90,8 +87,7 @@ pub extern "C" fn fc_decode_string_from_bytes(
 }
 
 // The covered read: refused by 3 where a byte of the window's range is not lent, and by 18 with the first base whose code is no symbol's.
-#[unsafe(no_mangle)]
-pub extern "C" fn fc_decode_covered(
+pub fn fc_decode_covered(
     alphabet: u64,
     bytes: &[u8],
     byte_offset: usize,
@@ -106,8 +102,7 @@ pub extern "C" fn fc_decode_covered(
 }
 
 // The rolling engine.
-#[unsafe(no_mangle)]
-pub extern "C" fn fc_decode_rolling(
+pub fn fc_decode_rolling(
     alphabet: u64,
     bytes: &[u8],
     byte_offset: usize,
@@ -122,8 +117,7 @@ pub extern "C" fn fc_decode_rolling(
 }
 
 // The engine of Dna2bit.
-#[unsafe(no_mangle)]
-pub extern "C" fn fc_decode_2bit(
+pub fn fc_decode_2bit(
     bytes: &[u8],
     byte_offset: usize,
     start: usize,
@@ -137,8 +131,7 @@ pub extern "C" fn fc_decode_2bit(
 }
 
 // The engine of Dna3bit.
-#[unsafe(no_mangle)]
-pub extern "C" fn fc_decode_3bit(
+pub fn fc_decode_3bit(
     bytes: &[u8],
     byte_offset: usize,
     start: usize,
@@ -152,8 +145,7 @@ pub extern "C" fn fc_decode_3bit(
 }
 
 // The engine of DnaIupac.
-#[unsafe(no_mangle)]
-pub extern "C" fn fc_decode_4bit(
+pub fn fc_decode_4bit(
     bytes: &[u8],
     byte_offset: usize,
     start: usize,
@@ -167,8 +159,7 @@ pub extern "C" fn fc_decode_4bit(
 }
 
 // The engine of Protein.
-#[unsafe(no_mangle)]
-pub extern "C" fn fc_decode_5bit(
+pub fn fc_decode_5bit(
     bytes: &[u8],
     byte_offset: usize,
     start: usize,

@@ -66,8 +66,7 @@ fn status_of(status: Status) -> u64
 }
 
 // A stream that has taken nothing; a refused start echoes its arguments, so that the state is refused again.
-#[unsafe(no_mangle)]
-pub extern "C" fn fc_stream_new(alphabet: u64, skip: u64, budget: u64) -> StreamStarted
+pub fn fc_stream_new(alphabet: u64, skip: u64, budget: u64) -> StreamStarted
     ensures { result ≡ stream_started alphabet skip budget }
 {
     let next = Stream {
@@ -87,8 +86,7 @@ pub extern "C" fn fc_stream_new(alphabet: u64, skip: u64, budget: u64) -> Stream
 }
 
 // The bases that the source's bytes give, at the front of the memory.
-#[unsafe(no_mangle)]
-pub extern "C" fn fc_stream_read(state: Stream, source: &[u8], out: &mut [u8]) -> Streamed
+pub fn fc_stream_read(state: Stream, source: &[u8], out: &mut [u8]) -> Streamed
     ensures value { result ≡ streamed state source.now (length out.old) }
     ensures memory { out.new ≡ streamed_memory state source.now out.old }
 {
@@ -126,8 +124,7 @@ pub extern "C" fn fc_stream_read(state: Stream, source: &[u8], out: &mut [u8]) -
 }
 
 // Whether the stream is complete; with bases outstanding it is refused by 7, with their count.
-#[unsafe(no_mangle)]
-pub extern "C" fn fc_stream_end(state: Stream) -> Ended
+pub fn fc_stream_end(state: Stream) -> Ended
     ensures { result ≡ ended (end_told state) }
 {
     let stands = state_of(state);

@@ -1,8 +1,8 @@
 // Reading standard input into a buffer that has room for one byte more than is packed, so that a longer input shows.
-ghost use Rattle.std.specs.Prelude.{◌≡◌, ◌+◌, ◌≤◌, length};
+ghost use Rattle.std.specs.Prelude.{◌≡◌, ◌+◌, ◌≤◌, ◌<◌, ◌^◌, length, IfOk};
 ghost use Rattle.packseq.specs.Input.{room, bytes_read, reading_after, AfterSome};
 
-use libc::STDIN_FILENO;
+use std::io::Read;
 
 // How far reading has come: so many bytes, with more to be read; all that there is, so many bytes; or a read failed.
 #[derive(Clone, Copy)]
@@ -30,18 +30,28 @@ fn after_read(len: usize, got: isize, rest: &[u8]) -> Reading
     Reading::Whole(len + more)
 }
 
+// What a read answered as one number: the bytes that it read, and where it failed -1.
+fn answer_of(read: std::io::Result<usize>) -> isize
+    requires { IfOk read (λ n. n < 2 ^ 63) }
+{
+    match read {
+        Ok(n) => n as isize,
+        Err(_) => -1,
+    }
+}
+
 // One more read, into what the buffer has behind its first `len` bytes: `after_read` alone judges what it answers.
-fn read_more(len: usize, buf: &mut [u8]) -> Reading
+fn read_more(rt: &HostRuntime, len: usize, buf: &mut [u8]) -> Reading
     requires { (len ≤ room) × (length buf.old ≡ room) }
     ensures { AfterSome len result }
 {
     let rest = &mut buf[len..];
-    let got = libc::read(STDIN_FILENO, rest);
+    let got = answer_of(rt.stdin().read(rest));
     after_read(len, got, rest)
 }
 
 // Reads until the input ends, the buffer is full or a read fails.
-pub fn read_input(buf: &mut [u8]) -> Reading
+pub fn read_input(rt: &HostRuntime, buf: &mut [u8]) -> Reading
     requires { length buf.old ≡ room }
     ensures { bytes_read result ≤ room }
 {
@@ -50,6 +60,6 @@ pub fn read_input(buf: &mut [u8]) -> Reading
         let Reading::More(len) = reading else {
             return reading;
         };
-        reading = read_more(len, buf);
+        reading = read_more(rt, len, buf);
     }
 }

@@ -16,7 +16,9 @@ ghost use Rattle.std.specs.Prelude.{◌≡◌, length};
 
 use crate::report::{print, print_total};
 use crate::tally::replay;
-use libc::STDIN_FILENO;
+
+// Standard input.
+const STDIN: i32 = 0;
 
 // Memory for the list, which must be shorter.
 fn space() -> [u8; 1048576]
@@ -27,7 +29,7 @@ fn space() -> [u8; 1048576]
 
 fn main() {
     let mut list = space();
-    let len = io::read_full(STDIN_FILENO, &mut list);
+    let len = io::read_full(STDIN, &mut list);
     if len == 1048576 {
         print(b"too long\n");
         return;

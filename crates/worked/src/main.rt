@@ -6,10 +6,12 @@ use coder::{
     Encoded, EncoderStarted, Ended, Finalized, Read, SequenceEncoder, Status, StreamStarted,
     Streamed, StreamingDecoder, Updated,
 };
-use libc::STDOUT_FILENO;
+
+// Standard output.
+const STDOUT: i32 = 1;
 
 fn print(text: &[u8]) {
-    io::write_all(STDOUT_FILENO, text);
+    io::write_all(STDOUT, text);
 }
 
 // The bytes in hexadecimal, and a line's end.
@@ -21,11 +23,11 @@ fn print_bytes(bytes: &[u8]) {
 }
 
 fn print_byte(byte: u8) {
-    io::print_hex(STDOUT_FILENO, byte as u64, 2);
+    io::print_hex(STDOUT, byte as u64, 2);
 }
 
 fn print_number(number: u64) {
-    io::print_decimal(STDOUT_FILENO, number);
+    io::print_decimal(STDOUT, number);
 }
 
 // A refusal's number, then its values.

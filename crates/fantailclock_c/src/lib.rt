@@ -1,0 +1,9 @@
+// The exports of the host library for C (include/fantailclock.h): each calls the function of the crate `fantailclock` that has its name, and states that function's
+// clauses again. Archive and symbols are those of one library, libfantailclock.a.
+#![tactic(auto)]
+
+mod encoders;
+mod guesses;
+mod kinds;
+mod reads;
+mod streams;
