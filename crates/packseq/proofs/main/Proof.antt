@@ -9,40 +9,43 @@ use Rattle.packseq.proofs.main.Statement.{statement}
 use Rattle.packseq.proofs.main.Tie as tie
 
 -- what is printed lies within the memory for it
-within : (c : tie.After-put-output) → c.put-output.result ≤ length c.put-output.new.1.1.0
+within : (c : tie.After-put_output-n) → c.put_output-n.result ≤ length c.put_output-n.new.out
 within c =
-    let p = c.put-output in
-    let r = c.before.before.before.before.read-input in
-    omega (arith, p.ensures.0, p.auto.1.1.0, length-replicate {A = ℕ} 32798 0, output_fits r.result r.new.0)
+    let p = c.put_output-n in
+    let r = c.read_input-reading in
+    omega (arith, p.ensures.0, p.auto.out, length-replicate {A = ℕ} 32798 0, output_fits r.result r.new.buf)
 
-slice-aggregate-read-input : tie.Need-slice-aggregate-read-input
+slice-aggregate-read-input : tie.Need-slice_bounds-read_input-end
 slice-aggregate-read-input c = search rules
 
-read-input-requires : tie.Need-read-input-requires
+read-input-requires : tie.Need-read_input-reading-requires
 read-input-requires c κs = length-replicate {A = ℕ} 16385 0
 
-slice-aggregate-put-output : tie.Need-slice-aggregate-put-output
+slice-aggregate-put-output : tie.Need-slice_bounds-put_output-end
 slice-aggregate-put-output c = search rules
 
-slice-aggregate-put-output-2 : tie.Need-slice-aggregate-put-output-2
+slice-aggregate-put-output-2 : tie.Need-slice_bounds-put_output-end-2
 slice-aggregate-put-output-2 c = search rules
 
-put-output-requires : tie.Need-put-output-requires
+put-output-requires : tie.Need-put_output-n-requires
 put-output-requires c κs =
-    let r = c.before.before.before.read-input in
-    (omega (arith, r.ensures, r.auto.0, length-replicate {A = ℕ} 16385 0), omega (arith, length-replicate {A = ℕ} 32798 0))
+    let r = c.read_input-reading in
+    (omega (arith, r.ensures, r.auto.buf, length-replicate {A = ℕ} 16385 0), omega (arith, length-replicate {A = ℕ} 32798 0))
 
-array-share-prefix-out : tie.Need-array-share-prefix-out
-array-share-prefix-out c = within c.before
+array-share-prefix-out : tie.Need-slice_bounds-out-end
+array-share-prefix-out c = within c.before.before.before.before
 
-slice-aggregate-write-all : tie.Need-slice-aggregate-write-all
-slice-aggregate-write-all c = sym (length-take-le _ _ (within c.before.before))
+slice-aggregate-write-all : tie.Need-slice_bounds-write_all-end
+slice-aggregate-write-all c = sym (length-take-le _ _ (within c.before.before.before.before.before))
 
-write-all-requires : tie.Need-write-all-requires
+write-all-requires : tie.Need-write_all-requires
 write-all-requires c κs = search rules
 
 returns : tie.Need-returns
 returns c = search rules
+
+new-stdout-requires : tie.Need-stdout-requires
+new-stdout-requires c κs = search rules
 
 pub main_spec : {M : Type 1} → statement M
 main_spec =
@@ -53,6 +56,7 @@ main_spec =
     slice-aggregate-put-output
     slice-aggregate-put-output-2
     put-output-requires
+    new-stdout-requires
     array-share-prefix-out
     slice-aggregate-write-all
     write-all-requires

@@ -24,54 +24,50 @@ not-whole (Reading.Whole len) buffer (inl e) = absurd (omega arith)
 not-whole (Reading.Whole len) buffer (inr e) = absurd (omega arith)
 not-whole Reading.Failed buffer e = refl
 
-enum-known-reading : tie.Need-enum-known-reading
+enum-known-reading : tie.Need-enum_known-reading
 enum-known-reading c = search rules
 
-slice-aggregate-text-line : tie.Need-slice-aggregate-text-line
-slice-aggregate-text-line c = search rules
-
-text-line-requires : tie.Need-text-line-requires
+text-line-requires : tie.Need-text_line-requires
 text-line-requires c κs = search rules
 
-same_length : tie.Need-same-length
+same_length : tie.Need-shape_of-out-in_default
 same_length c = search rules
 
-returns : tie.Need-returns
+returns : tie.Need-returns-in_default
 unfolding bytes_of
 returns c =
-    let r = c.before.before.text-line in
-    let m = c.before.before.before.before.before in
-    let s = m.before.before.before in
+    let r = c.text_line in
+    let m = c in
+    let s = m in
     let g = s.args.reading in
     let b = s.args.buf.now in
-    all-put (output g b) _ _ _ _ (output_fits g b) (not-whole g b m.match.keys2) s.requires.1 r.ensures.0 r.ensures.1
+    all-put (output g b) _ _ _ _ (output_fits g b) (not-whole g b m.in_default.in_default-own.keys2) s.requires.1 r.ensures.0 r.ensures.1
 
-slice-aggregate-put-printed : tie.Need-slice-aggregate-put-printed
+slice-aggregate-put-printed : tie.Need-slice_bounds-put_printed-end
 slice-aggregate-put-printed c =
-    let w = c.before.before in
-    let s = w.before.before.before.before in
-    sym (length-take-le _ _ (whole_within s.args.reading _ _ w.reading.given.1 s.requires.0))
+    let w = c in
+    let s = w in
+    sym (length-take-le _ _ (whole_within s.args.reading _ _ w.in-Whole.is s.requires.0))
 
-put-printed-requires : tie.Need-put-printed-requires
+put-printed-requires : tie.Need-put_printed-requires
 put-printed-requires c κs = search rules
 
-same-length-2 : tie.Need-same-length-2
+same-length-2 : tie.Need-shape_of-out
 same-length-2 c = search rules
 
-returns-2 : tie.Need-returns-2
+returns-2 : tie.Need-returns
 returns-2 c =
-    let r = c.before.before.put-printed in
-    let lent = c.before.before.before.before in
-    let w = lent.before.before in
-    let s = w.before.before.before.before in
-    is_whole s.args.reading _ _ _ _ _ w.reading.given.1 r.ensures.0 r.ensures.1
+    let r = c.put_printed in
+    let lent = c in
+    let w = lent in
+    let s = w in
+    is_whole s.args.reading _ _ _ _ _ w.in-Whole.is r.ensures.0 r.ensures.1
 
-pub put-output-spec : {M : Type 1} → statement M
-put-output-spec =
+pub put_output_spec : {M : Type 1} → statement M
+put_output_spec =
     tie.close
     (tie.spec
     enum-known-reading
-    slice-aggregate-text-line
     text-line-requires
     same_length
     returns

@@ -11,8 +11,8 @@ use Rattle.packseq.proofs.put.put_printed.Statement.{statement}
 use Rattle.packseq.proofs.put.put_printed.Tie as tie
 
 -- where packing has answered: the way back to the start, and what the answer tells
-module _ (e : tie.After-encode-sequence) where
-  abbrev guessed : tie.After-guess-alphabet
+module _ (e : tie.After-encode_sequence-answer) where
+  abbrev guessed : tie.After-guess_alphabet-kind
   guessed = e.before.before.before
 
   abbrev start : tie.Start
@@ -22,72 +22,68 @@ module _ (e : tie.After-encode-sequence) where
   text = start.args.text.now
 
   abbrev out : List ℕ
-  out = e.encode-sequence.last.1.1.1.0
+  out = e.encode_sequence-answer.new.out
 
-  fits : packed_bytes e.encode-sequence.result ≤ length out
+  fits : packed_bytes e.encode_sequence-answer.result ≤ length out
   fits =
-      packed_within text (replicate 16384 0) out guessed.guess-alphabet.result e.before.before.number.result e.encode-sequence.result
-      guessed.guess-alphabet.ensures e.before.before.number.ensures e.encode-sequence.ensures.0 e.encode-sequence.ensures.1
+      packed_within text (replicate 16384 0) out guessed.guess_alphabet-kind.result e.number.result e.encode_sequence-answer.result
+      guessed.guess_alphabet-kind.ensures e.number.ensures e.encode_sequence-answer.ensures.0 e.encode_sequence-answer.ensures.1
 
-  lines : answered guessed.guess-alphabet.result (length text) e.encode-sequence.result out ≡ printed text
+  lines : answered guessed.guess_alphabet-kind.result (length text) e.encode_sequence-answer.result out ≡ printed text
   lines =
-      is_answered text (replicate 16384 0) out guessed.guess-alphabet.result e.before.before.number.result e.encode-sequence.result
-      guessed.guess-alphabet.ensures e.before.before.number.ensures e.encode-sequence.ensures.0 e.encode-sequence.ensures.1
-      guessed.before.if1.left (length-replicate {A = ℕ} 16384 0)
+      is_answered text (replicate 16384 0) out guessed.guess_alphabet-kind.result e.number.result e.encode_sequence-answer.result
+      guessed.guess_alphabet-kind.ensures e.number.ensures e.encode_sequence-answer.ensures.0 e.encode_sequence-answer.ensures.1
+      guessed.if-text-gt-LONGEST.false (length-replicate {A = ℕ} 16384 0)
 
-slice-aggregate-text-line : tie.Need-slice-aggregate-text-line
-slice-aggregate-text-line c = search rules
-
-text-line-requires : tie.Need-text-line-requires
+text-line-requires : tie.Need-text_line-requires
 text-line-requires c κs = search rules
 
-same_length : tie.Need-same-length
+same_length : tie.Need-shape_of-out-then-text-gt-LONGEST
 same_length c = search rules
 
-returns : tie.Need-returns
+returns : tie.Need-returns-then-text-gt-LONGEST
 unfolding bytes_of
 returns c =
-    let r = c.before.before.text-line in
-    let long = c.before.before.before.before.before in
-    let s = long.before.before.before in
+    let r = c.text_line in
+    let long = c in
+    let s = long in
     let t = s.args.text.now in
-    all-put (printed t) (line (bytes_of "too long")) _ _ _ (printed_fits t) (is_long t long.if1.true) s.requires r.ensures.0 r.ensures.1
+    all-put (printed t) (line (bytes_of "too long")) _ _ _ (printed_fits t) (is_long t long.if-text-gt-LONGEST.true) s.requires r.ensures.0 r.ensures.1
 
-guess-alphabet-requires : tie.Need-guess-alphabet-requires
+guess-alphabet-requires : tie.Need-guess_alphabet-kind-requires
 guess-alphabet-requires c κs = search rules
 
 number-requires : tie.Need-number-requires
 number-requires c κs = search rules
 
-slice-aggregate-encode-sequence : tie.Need-slice-aggregate-encode-sequence
+slice-aggregate-encode-sequence : tie.Need-slice_bounds-encode_sequence-end
 slice-aggregate-encode-sequence c = search rules
 
-encode-sequence-requires : tie.Need-encode-sequence-requires
+encode-sequence-requires : tie.Need-encode_sequence-answer-requires
 encode-sequence-requires c κs = search rules
 
-slice-aggregate-put-answer : tie.Need-slice-aggregate-put-answer
+slice-aggregate-put-answer : tie.Need-slice_bounds-put_answer-end
 slice-aggregate-put-answer c = search rules
 
-put-answer-requires : tie.Need-put-answer-requires
+put-answer-requires : tie.Need-put_answer-requires
 put-answer-requires c κs = fits c.before.before.before
 
-same-length-2 : tie.Need-same-length-2
+same-length-2 : tie.Need-shape_of-out
 same-length-2 c = search rules
 
-returns-2 : tie.Need-returns-2
+returns-2 : tie.Need-returns
 returns-2 c =
-    let r = c.before.before.put-answer in
-    let lent = c.before.before.before in
-    let e = lent.before.before.before in
-    let s = start e in
+    let r = c.put_answer in
+    let lent = c in
+    let e = lent in
+    let s = start e.before.before.before.before.before.before in
     let t = s.args.text.now in
-    all-put (printed t) _ _ _ _ (printed_fits t) (lines e) s.pre r.ensures.0 r.ensures.1
+    all-put (printed t) _ _ _ _ (printed_fits t) (lines e.before.before.before.before.before.before) s.requires r.ensures.0 r.ensures.1
 
-pub put-printed-spec : {M : Type 1} → statement M
-put-printed-spec =
+pub put_printed_spec : {M : Type 1} → statement M
+put_printed_spec =
     tie.close
     (tie.spec
-    slice-aggregate-text-line
     text-line-requires
     same_length
     returns
