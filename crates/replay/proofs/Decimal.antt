@@ -5,8 +5,7 @@ use Prim.Native.Nat.{ℕ, zero, suc, ◌+◌, ◌*◌, ◌≤◌, ◌<◌}
 use native.Mathlib.Omega.{arith}
 use lib.ListN.{length, get_or, take, drop, length-take}
 use lib.Seq.{take-suc, drop-append-le, length-take-le}
-use Rattle.bytes.specs.Bytes.{slice}
-use Rattle.replay.specs.Fields.{digit_of, written, written_behind}
+use Rattle.replay.specs.Fields.{slice, digit_of, written, written_behind}
 
 -- one digit more
 written-snoc : (v : ℕ) (digits : List ℕ) (d : ℕ) → written_behind v (digits ++ (d ∷ [])) ≡ written_behind v digits * 10 + digit_of d

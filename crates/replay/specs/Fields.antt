@@ -1,6 +1,14 @@
 -- The fields of a list's lines.
-use Rattle.std.specs.Prelude.{ℕ, ◌+◌, ◌*◌, List, [], ◌∷◌}
-use Rattle.bytes.specs.Bytes.{index_of}
+use Rattle.std.specs.Prelude.{ℕ, suc, ◌+◌, ◌*◌, cond, eqb, List, [], ◌∷◌, take, drop}
+
+-- a part of a line, from one place to another
+unfoldable pub slice : ℕ → ℕ → List ℕ → List ℕ
+slice from to line = drop from (take to line)
+
+-- the place of the first entry that is the one asked for, and the length where there is none
+unfoldable pub index_of : ℕ → List ℕ → ℕ
+index_of x [] = 0
+index_of x (y ∷ ys) = cond (eqb y x) 0 (suc (index_of x ys))
 
 -- the sixteen hexadecimal digits, 0 to 9 and a to f, as bytes
 abbrev pub hex_digits : List ℕ

@@ -1,6 +1,6 @@
 // Calls of the packing layer.
 use crate::answer::{Answer, packed, three, unknown};
-use check::same;
+use crate::parse::same;
 use fantailclock::{
     Encoder, EncoderStarted, Range, Updated, fc_byte_range_for_bases, fc_encode_sequence,
     fc_encoder_ask, fc_encoder_finalize, fc_encoder_new, fc_encoder_update,

@@ -1,6 +1,6 @@
 // Calls of the alphabet layer.
 use crate::answer::{Answer, count, number, one, three, two, unknown};
-use check::same;
+use crate::parse::same;
 use fantailclock::{
     Guesser, Guessing, fc_abi_version, fc_bits_per_symbol, fc_contains, fc_display_name,
     fc_guess_alphabet, fc_guesser_guess, fc_guesser_new, fc_guesser_update, fc_later_alphabet,

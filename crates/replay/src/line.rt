@@ -2,10 +2,8 @@
 ghost use Rattle.replay.specs.Compared.{Agreeing};
 
 use crate::answer::{Answer, same_words, unknown};
-use crate::parse::{is_at, read_bytes, read_numbers};
+use crate::parse::{find, is_at, read_bytes, read_numbers, same};
 use crate::report::print_answer;
-use bytes::scan::find;
-use check::same;
 
 #[derive(Clone, Copy)]
 pub enum Outcome {

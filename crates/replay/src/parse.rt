@@ -1,9 +1,6 @@
 // The fields of a line. Each begins with the space before it, and the next begins where it ends.
 ghost use Rattle.std.specs.Prelude.{◌≡◌, true, ◌+◌, ◌<◌, ◌≤◌, length};
-ghost use Rattle.bytes.specs.Bytes.{slice};
-ghost use Rattle.replay.specs.Fields.{digit_of, written};
-
-use bytes::scan::find;
+ghost use Rattle.replay.specs.Fields.{slice, index_of, digit_of, written};
 
 // A number: whether there is one, its value, and where the next field begins.
 #[derive(Clone, Copy)]
@@ -19,6 +16,27 @@ pub struct Row {
     pub found: bool,
     pub count: usize,
     pub next: usize,
+}
+
+// Whether two parts hold the same bytes.
+pub fn same(a: &[u8], b: &[u8]) -> bool
+    ensures { result ≡ true → a.now ≡ b.now }
+{
+    a == b
+}
+
+// The place of the first byte between two places that is the one asked for, and the later of the two where there is none.
+pub fn find(bytes: &[u8], from: usize, to: usize, byte: u8) -> usize
+    requires { (from ≤ to) × (to ≤ length bytes.now) }
+    ensures value { result ≡ from + index_of byte (slice from to bytes.now) }
+    ensures within { (from ≤ result) × (result ≤ to) }
+{
+    for i in from..to {
+        if bytes[i] == byte {
+            return i;
+        }
+    }
+    to
 }
 
 // What a byte is worth as a hexadecimal digit in lowercase, and 16 for any other.
@@ -39,7 +57,7 @@ pub fn is_at(line: &[u8], at: usize, word: &[u8]) -> bool
         return false;
     }
     let end = at + word.len();
-    check::same(&line[at..end], word)
+    same(&line[at..end], word)
 }
 
 // A number in decimal from `from` on. There is none without a digit, or where it takes more than 64 bits.

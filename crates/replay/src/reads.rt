@@ -1,6 +1,6 @@
 // Calls of the windows layer.
 use crate::answer::{Answer, count, covered, unknown};
-use check::same;
+use crate::parse::same;
 use fantailclock::{
     fc_decode_2bit, fc_decode_3bit, fc_decode_4bit, fc_decode_5bit, fc_decode_covered,
     fc_decode_rolling, fc_decode_string_from_bytes, fc_decode_substring_from_bytes,

@@ -1,6 +1,6 @@
 // Calls of the streaming layer.
 use crate::answer::{Answer, two, unknown};
-use check::same;
+use crate::parse::same;
 use fantailclock::{
     Ended, Stream, StreamStarted, Streamed, fc_stream_end, fc_stream_new, fc_stream_read,
 };

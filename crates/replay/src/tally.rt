@@ -3,9 +3,8 @@ ghost use Rattle.std.specs.Prelude.{◌≡◌, ◌+◌, ◌<◌, ◌≤◌, leng
 ghost use Rattle.replay.specs.Counts.{Kept, lines_of};
 
 use crate::line::{Outcome, replayed};
+use crate::parse::{find, same};
 use crate::report::{print_group, print_line};
-use bytes::scan::find;
-use check::same;
 
 // Of the present run: where in the list its function's name stands, how many calls there were, and how many agreed. Of the list so far: calls, comments, and
 // lines that are neither.

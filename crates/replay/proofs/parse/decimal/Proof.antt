@@ -3,7 +3,7 @@ use mathlib.Core.Bool.{true≢false}
 use Prim.Native.Nat.{◌≤◌, ◌-◌}
 use native.Mathlib.Omega.{arith}
 use lib.ListN.{length}
-use Rattle.bytes.specs.Bytes.{slice}
+use Rattle.replay.specs.Fields.{slice}
 use Rattle.replay.specs.Fields.{written}
 use Rattle.replay.proofs.Decimal.{written-more, written_none}
 use borrow.Author.Rules.{rules}

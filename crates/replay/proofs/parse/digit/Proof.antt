@@ -1,7 +1,7 @@
 use mathlib.Core.Path.{◌∙◌}
 use native.Mathlib.Nat.{zero-add}
 use borrow.Author.Rules.{rules}
-use Rattle.bytes.specs.Bytes.{slice}
+use Rattle.replay.specs.Fields.{slice}
 use Rattle.replay.proofs.parse.digit.Statement.{statement}
 use Rattle.replay.proofs.parse.digit.Tie as tie
 
