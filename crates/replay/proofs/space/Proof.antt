@@ -8,5 +8,8 @@ use Rattle.replay.proofs.space.Tie as tie
 returns : tie.Need-returns
 returns c = sym (length-replicate {0} {A = ℕ} 1048576 0)
 
-pub space-spec : {M : Type 1} → statement M
-space-spec = tie.close (tie.spec returns)
+pub space_spec : {M : Type 1} → statement M
+space_spec =
+    tie.close
+    (tie.spec
+    returns)

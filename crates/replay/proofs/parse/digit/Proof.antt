@@ -5,9 +5,6 @@ use Rattle.replay.specs.Fields.{slice}
 use Rattle.replay.proofs.parse.digit.Statement.{statement}
 use Rattle.replay.proofs.parse.digit.Tie as tie
 
-slice-aggregate-find : tie.Need-slice-aggregate-find
-slice-aggregate-find c = search rules
-
 find-requires : tie.Need-find-requires
 find-requires c κs = search rules
 
@@ -15,5 +12,9 @@ returns : tie.Need-returns
 unfolding slice
 returns c = c.find.ensures.0 ∙ zero-add _
 
-pub digit-spec : {M : Type 1} → statement M
-digit-spec = tie.close (tie.spec slice-aggregate-find find-requires returns)
+pub digit_spec : {M : Type 1} → statement M
+digit_spec =
+    tie.close
+    (tie.spec
+    find-requires
+    returns)
