@@ -2,7 +2,7 @@
 use Rattle.std.specs.Prelude.{ℕ, ◌+◌, ◌*◌, ◌/◌, ◌%◌, ◌^◌, Bool, true, cond, ◌&&◌, List, [], ◌∷◌, ◌==◌, bit_and, nat_le, slice_index_or}
 use Rattle.std.specs.Int.Count.{count_trailing_zeros}
 use Rattle.alphabet.specs.Questions.{ask◌else◌then◌, by}
-use Rattle.alphabet.specs.Symbols.{Coding, coding, folded, coding_by}
+use Rattle.alphabet.specs.Symbols.{coding, folded, coding_by}
 use Rattle.alphabet.specs.declared.kind.AlphabetType.{AlphabetType}
 use Rattle.alphabet.specs.declared.kind.AlphabetType.TheVariants.{Dna2bit, Dna3bit, DnaIupac, Protein, Ascii, Unknown}
 use Rattle.alphabet.specs.declared.guesser.AlphabetGuesser.{AlphabetGuesser}

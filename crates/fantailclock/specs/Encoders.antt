@@ -1,5 +1,5 @@
 -- The encoder for hosts: its state as numbers, and what its calls tell.
-use Rattle.std.specs.Prelude.{ℕ, Bool, cond, ◌&&◌, ◌||◌, List, [], leb, eqb, length}
+use Rattle.std.specs.Prelude.{ℕ, Bool, cond, ◌&&◌, ◌||◌, List, [], leb, eqb}
 use Rattle.alphabet.specs.Questions.{ask◌else◌then◌, Reply, refused, refusal_reply, number_in}
 use Rattle.alphabet.specs.Names.{number_of, known, kind_of}
 use Rattle.alphabet.specs.Answers.{fold_number}

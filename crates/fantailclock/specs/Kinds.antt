@@ -1,8 +1,7 @@
 -- What the calls on alphabets tell. States document 01, "Leaf 1: symbols and codes", and questions 1 and 9, for hosts.
-use Rattle.std.specs.Prelude.{ℕ, cond, ◌&&◌, List, [], ◌∷◌, leb, length}
+use Rattle.std.specs.Prelude.{ℕ, cond, List, [], ◌∷◌, leb, length}
 use Rattle.bits.specs.Memory.{front}
 use Rattle.alphabet.specs.Questions.{ask◌else◌then◌, Reply, accepted, refused}
-use Rattle.alphabet.specs.Symbols.{Coding}
 use Rattle.alphabet.specs.Names.{display_name_of, known, kind_of, numbered}
 
 -- the bits per symbol

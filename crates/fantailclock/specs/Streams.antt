@@ -1,5 +1,5 @@
 -- The stream for hosts: its state as numbers, and what its calls tell.
-use Rattle.std.specs.Prelude.{ℕ, ◌&&◌, List, [], leb, length}
+use Rattle.std.specs.Prelude.{ℕ, ◌&&◌, List, [], leb}
 use Rattle.alphabet.specs.Questions.{ask◌else◌then◌, Reply, refused, refusal_reply, number_in}
 use Rattle.alphabet.specs.Names.{number_of, known, kind_of}
 use Rattle.streaming.specs.declared.decoder.StreamingDecoder.{StreamingDecoder}

@@ -6,7 +6,7 @@ use Prim.Native.Nat.{ℕ, zero, suc, ◌+◌, ◌-◌, ◌*◌, ◌/◌, ◌%◌
 use native.Mathlib.Nat.{le_of_suc-le-suc, not-suc-le-zero}
 use native.Mathlib.Decide.{dec_lt}
 use native.Mathlib.Omega.{arith}
-use lib.ListN.{length, take, drop, length-map, get_or-eq_default}
+use lib.ListN.{length, take, drop, get_or-eq_default}
 use lib.Pow.{pow_pos}
 use Rattle.bits.specs.Tables.{at, tabulate, Bytes}
 use Rattle.bits.specs.Streams.{word}
@@ -14,7 +14,7 @@ use Rattle.bits.specs.Packing.{at_hand}
 use Rattle.bits.proofs.Tabulated.{length-tabulate, get_d_tabulate}
 use Rattle.bits.proofs.Hand.{hand_digit}
 use Rattle.alphabet.specs.declared.kind.AlphabetType.{AlphabetType}
-use Rattle.alphabet.specs.Symbols.{Coding, coding_by}
+use Rattle.alphabet.specs.Symbols.{coding_by}
 use Rattle.alphabet.proofs.Laws.{lawful}
 use Rattle.packing.specs.Encode.{digit_of, digits_of}
 use Rattle.packing.specs.Run.{Digits, Tabled, left_over_of, looked}

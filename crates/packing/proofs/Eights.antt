@@ -1,6 +1,6 @@
 -- Packing in blocks of eight symbols, where nothing pends: eight digits of b bits are b bytes.
 use mathlib.Core.Path.{◌≡◌, sym, ap, ap₂, ◌∙◌}
-use mathlib.Core.List.{List, [], ◌++◌}
+use mathlib.Core.List.{List}
 use Prim.Native.Nat.{ℕ, ◌+◌, ◌-◌, ◌*◌, ◌/◌, ◌%◌, ◌^◌, ◌≤◌, ◌<◌}
 use native.Mathlib.Nat.{add-zero, zero-add, zero-mul, add-mul, one-mul, mul_comm, mul_assoc, mul-le-mul_right, mod-eq_of_lt, lt_of_lt_of_le}
 use native.Mathlib.Omega.{arith}

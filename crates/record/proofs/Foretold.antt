@@ -1,12 +1,12 @@
 -- Request A10, of calls: `ask` answers what `update` does, and the count that it tells is what memory is measured by. No state, piece or length is left out.
-use mathlib.Core.Path.{◌≡◌, refl, sym, ap, ap₂, subst, ◌∙◌}
+use mathlib.Core.Path.{◌≡◌, refl, sym, ap, ap₂, ◌∙◌}
 use mathlib.Core.List.{List, []}
 use Prim.Native.Nat.{ℕ, ◌≤◌}
 use lib.Dec.{leb}
 use lib.ListN.{length, drop}
 use Rattle.alphabet.specs.Questions.{ask◌else◌then◌, by, limit, number_in}
 use Rattle.packing.specs.Answers.{updated_reply}
-use Rattle.packing.specs.Encode.{update_at, update_memory}
+use Rattle.packing.specs.Encode.{update_at}
 use Rattle.packing.specs.declared.encoder.SequenceEncoder.{SequenceEncoder}
 use Rattle.packing.specs.declared.encoder.Updated.{Updated}
 use Rattle.packing.proofs.Rooms.{accepted_at, never_short, kept_behind}

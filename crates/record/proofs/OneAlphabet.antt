@@ -14,7 +14,7 @@ use Rattle.alphabet.specs.Symbols.{Coding, coding_by}
 use Rattle.alphabet.specs.Names.{number_of, known, kind_of, numbered_by}
 use Rattle.alphabet.specs.Answers.{named_reply}
 use Rattle.alphabet.specs.Guess.{guess_of}
-use Rattle.alphabet.specs.Genome.{later, later_at, latest}
+use Rattle.alphabet.specs.Genome.{later_at, latest}
 use Rattle.alphabet.proofs.Calls.{kind_number, known_number, later-kinds, held-members}
 use Rattle.alphabet.proofs.Combining.{combining}
 use Rattle.packing.specs.Encode.{packing}

@@ -1,4 +1,4 @@
-use Rattle.std.proofs.Common.{◌≡◌, rules}
+use Rattle.std.proofs.Common.{rules}
 use Rattle.alphabet.proofs.Folding.{base_told}
 use Rattle.alphabet.proofs.bases.is_base.Statement.{statement}
 use Rattle.alphabet.proofs.bases.is_base.Tie as tie

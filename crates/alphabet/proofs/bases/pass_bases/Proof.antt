@@ -1,4 +1,4 @@
-use Rattle.std.proofs.Common.{◌≡◌, Bool, sym, subst, rules}
+use Rattle.std.proofs.Common.{Bool, sym, subst, rules}
 use Rattle.alphabet.specs.Symbols.{folded}
 use Rattle.alphabet.specs.Bases.{Run}
 use Rattle.alphabet.proofs.bases.pass_bases.Statement.{statement}

@@ -1,4 +1,4 @@
-use Rattle.std.proofs.Common.{◌≡◌, ℕ, ◌-◌, ◌≤◌, min, Bool, true, ◌⊎◌, List, length, sym, ap, ◌∙◌, inl, inr, arith, rules}
+use Rattle.std.proofs.Common.{◌≡◌, ℕ, ◌-◌, ◌≤◌, min, Bool, true, ◌⊎◌, length, sym, ap, ◌∙◌, inl, inr, arith, rules}
 use native.Mathlib.Decide.{dec_le}
 use Rattle.alphabet.specs.Symbols.{folded_entries}
 use Rattle.alphabet.proofs.Turns.{FoldedTo, fold_none, fold_more, fold_done, fold_kept}

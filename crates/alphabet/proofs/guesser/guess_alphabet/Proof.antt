@@ -1,6 +1,5 @@
 use Rattle.std.proofs.Common.{◌≡◌, ℕ, Bool, List, ap, lit≤, rules}
 use Rattle.bits.specs.Tables.{Bytes}
-use Rattle.alphabet.specs.declared.guesser.AlphabetGuesser.{AlphabetGuesser}
 use Rattle.alphabet.specs.declared.guesser.Guessed.TheVariants.{Kind}
 use Rattle.alphabet.specs.Guess.{guess_of}
 use Rattle.alphabet.proofs.Calls.{fresh-guess, kind_only, kind_same}

@@ -1,4 +1,4 @@
-use Rattle.std.proofs.Common.{◌≡◌, ℕ, ◌+◌, ◌-◌, ◌≤◌, List, length, ◌∙◌, arith, rules}
+use Rattle.std.proofs.Common.{ℕ, ◌+◌, ◌-◌, ◌≤◌, List, length, ◌∙◌, arith, rules}
 use Rattle.alphabet.specs.Symbols.{folded}
 use Rattle.alphabet.specs.Bases.{Bases}
 use Rattle.alphabet.proofs.Laws.{length-folded, run_in_part}

@@ -1,4 +1,4 @@
-use Rattle.std.proofs.Common.{◌≡◌, ◌∙◌, rules}
+use Rattle.std.proofs.Common.{◌∙◌, rules}
 use Rattle.alphabet.specs.Guess.{mask_of}
 use Rattle.alphabet.proofs.Turns.{entries-folded}
 use Rattle.alphabet.proofs.mask.masks_by.Statement.{statement}

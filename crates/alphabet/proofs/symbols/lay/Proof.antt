@@ -1,4 +1,4 @@
-use Rattle.std.proofs.Common.{◌≡◌, ◌-◌, ◌≤◌, length, sym, ◌∙◌, arith, length-set, rules}
+use Rattle.std.proofs.Common.{◌≡◌, ◌≤◌, length, sym, ◌∙◌, arith, length-set, rules}
 use Rattle.bits.specs.Tables.{at}
 use Rattle.alphabet.specs.Symbols.{symbol_of, code_of}
 use Rattle.alphabet.proofs.Turns.{Filled, fill_none, fill_more, fill_done, entries_kept}

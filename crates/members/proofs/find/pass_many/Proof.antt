@@ -1,4 +1,3 @@
-use borrow.Author.Rules.{rules}
 use native.Mathlib.Omega.{arith}
 use Rattle.alphabet.specs.Symbols.{coding_by}
 use Rattle.members.proofs.Passing.{passed_none}

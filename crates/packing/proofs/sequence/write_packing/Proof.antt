@@ -1,12 +1,11 @@
 use mathlib.Core.Path.{◌≡◌, refl, sym, ap, ◌∙◌, subst}
 use mathlib.Core.List.{List}
-use Prim.Native.Nat.{ℕ, ◌-◌, ◌*◌, ◌/◌, ◌%◌, ◌^◌, ◌≤◌, ◌<◌}
+use Prim.Native.Nat.{ℕ, ◌-◌, ◌*◌, ◌%◌, ◌^◌, ◌<◌}
 use native.Mathlib.Nat.{zero-mul}
 use native.Mathlib.Omega.{arith}
 use borrow.Author.Rules.{rules}
 use lib.ListN.{length, length-map}
 use lib.Pow.{pow_pos}
-use Rattle.alphabet.specs.Questions.{limit}
 use Rattle.alphabet.specs.Symbols.{Coding, coding_by}
 use Rattle.alphabet.proofs.Laws.{lawful}
 use Rattle.packing.specs.Encode.{digit_of, digits_of}

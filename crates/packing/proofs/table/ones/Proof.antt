@@ -6,7 +6,6 @@ use borrow.Author.Rules.{rules}
 use lib.Pow.{pow_pos, pow_mono}
 use Rattle.bits.proofs.Shifts.{power_is}
 use Rattle.alphabet.proofs.Laws.{lawful}
-use Rattle.alphabet.specs.Symbols.{coding}
 use Rattle.packing.proofs.table.ones.Statement.{statement}
 use Rattle.packing.proofs.table.ones.Tie as tie
 

@@ -7,7 +7,7 @@ use lib.ListN.{length, length-set}
 use lib.Pow.{pow_mono}
 use borrow.Author.Rules.{rules}
 use Rattle.bits.proofs.Shifts.{push_byte_is, low_is}
-use Rattle.streaming.specs.Stream.{reads_by, bases_of}
+use Rattle.streaming.specs.Stream.{bases_of}
 use Rattle.streaming.specs.Flow.{Level, filled}
 use Rattle.streaming.proofs.Levels.{level_lt, level_fill, level_same, level_all, level_dry, level_answer, fill_more}
 use Rattle.streaming.proofs.Blocks.{code_is}
@@ -82,7 +82,7 @@ ready c =
     let inv = l.loop-n.invariant in
     let five = (start l).requires.0.0.five in
     elim c.if-have-b.branch [
-      then-have-b+else-taken-source w ↦ (
+      | then-have-b+else-taken-source w ↦ (
         level_same
             (level_fill inv.1 (omega (arith, inv.1.within, w.if-taken-source.false)) _ refl (w.shared_slice_known-then-have-b-1.given l.loop-n.taken).fits
             (w.push_byte-acc.ensures ∙ push_byte_is _ _ (room l)))
@@ -154,9 +154,9 @@ count c =
     let room = length (start l).args.out.now in
     let pre = (start l).requires.0 in
     elim c.loop-n-test.branch [
-      else-loop-n-test w ↦ level_all inv.1 room inv.2 (omega (arith, inv.0, w.loop-n-test.false, limit l))
+      | else-loop-n-test w ↦ level_all inv.1 room inv.2 (omega (arith, inv.0, w.loop-n-test.false, limit l))
       | then-loop-n-test+then-have-b+then-taken-source w ↦
-        level_dry inv.1 room pre.1 inv.2 (omega (arith, w.if-have-b.true, pre.0.wide)) w.if-taken-source.true (omega (arith, inv.0, limit l))
+          level_dry inv.1 room pre.1 inv.2 (omega (arith, w.if-have-b.true, pre.0.wide)) w.if-taken-source.true (omega (arith, inv.0, limit l))
     ]
 
 answered-requires : tie.Need-answered-requires invariant-loop decreases-loop
