@@ -18,6 +18,6 @@ fn main(rt: HostRuntime) {
     let reading = input::read_input(&rt, &mut text);
     let mut out = [0u8; MOST];
     let n = put::put_output(reading, &text, &mut out);
-    // what cannot be written is left: the program has no status to tell it by
+    // the installed command, which hands the output on, tells by its status where it cannot be written
     let _ = rt.stdout().write_all(&out[..n]);
 }
