@@ -1,4 +1,4 @@
-// The host library: one function for each entry point, with the C convention (include/fantailclock.h).
+// The host library: one function for each entry point, over numbers, plain structs and lent memory. The crate fantailclock_c hands them out to C.
 #![tactic(auto)]
 
 mod encoders;

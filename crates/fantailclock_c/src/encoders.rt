@@ -1,12 +1,10 @@
-ghost use Rattle.std.specs.Prelude.{◌≡◌, true, length};
-ghost use Rattle.alphabet.specs.Names.{kind_of};
-ghost use Rattle.alphabet.specs.Questions.{refusal_reply};
+ghost use Rattle.std.specs.Prelude.{◌≡◌, length};
 ghost use Rattle.packing.specs.Encode.{encode_at, encode_memory};
 ghost use Rattle.packing.specs.Range.{range_at};
 ghost use Rattle.packing.specs.Answers.{encoded_reply, range_reply};
 ghost use Rattle.fantailclock.specs.Shapes.{range, packed, chosen};
-ghost use Rattle.fantailclock.specs.Encoders.{inside, fitting, outside, state_of, encoder_started};
-ghost use Rattle.fantailclock.specs.Encoders.{updated_by, encoder_updated, encoder_update_memory, finalize_told, encoder_finalize_memory};
+ghost use Rattle.fantailclock.specs.Encoders.{encoder_started};
+ghost use Rattle.fantailclock.specs.Encoders.{encoder_updated, encoder_update_memory, finalize_told, encoder_finalize_memory};
 
 use fantailclock::{Encoder, EncoderStarted, Packed, Range, Updated};
 

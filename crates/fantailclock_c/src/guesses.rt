@@ -1,7 +1,7 @@
 ghost use Rattle.std.specs.Prelude.{◌≡◌};
 ghost use Rattle.alphabet.specs.Guess.{fresh_guesser};
 ghost use Rattle.fantailclock.specs.Shapes.{number, chosen};
-ghost use Rattle.fantailclock.specs.Guesses.{outside, state_of, guesser_updated, guesser_told, guessed_told};
+ghost use Rattle.fantailclock.specs.Guesses.{outside, guesser_updated, guesser_told, guessed_told};
 
 use fantailclock::{Guesser, Guessing, Number};
 

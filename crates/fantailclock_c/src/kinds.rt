@@ -1,5 +1,4 @@
-ghost use Rattle.std.specs.Prelude.{◌≡◌, ◌≤◌, length, take};
-ghost use Rattle.bits.specs.Memory.{front};
+ghost use Rattle.std.specs.Prelude.{◌≡◌, length};
 ghost use Rattle.alphabet.specs.Genome.{later_at};
 ghost use Rattle.alphabet.specs.Answers.{named_reply};
 ghost use Rattle.fantailclock.specs.Shapes.{number, count};

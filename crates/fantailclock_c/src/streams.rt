@@ -1,7 +1,6 @@
 ghost use Rattle.std.specs.Prelude.{◌≡◌, length};
-ghost use Rattle.streaming.specs.Answers.{status_number};
 ghost use Rattle.fantailclock.specs.Shapes.{ended};
-ghost use Rattle.fantailclock.specs.Streams.{outside, state_of, stream_started, streamed, streamed_memory, end_told};
+ghost use Rattle.fantailclock.specs.Streams.{stream_started, streamed, streamed_memory, end_told};
 
 use fantailclock::{Ended, Stream, StreamStarted, Streamed};
 

@@ -1,4 +1,4 @@
--- How far reading standard input has come. What the C function `read` answers is all that a program knows of its input.
+-- How far reading standard input has come. What a read answers, a count of bytes or -1 where it failed, is all that a program knows of its input.
 use Rattle.std.specs.Prelude.{ℕ, zero, suc, ◌+◌, ◌-◌, ◌≡◌, cond, ltb, ℤ, pos, negsuc}
 use Rattle.packseq.specs.declared.input.Reading.{Reading}
 

@@ -1,5 +1,5 @@
 // Reading standard input into a buffer that has room for one byte more than is packed, so that a longer input shows.
-ghost use Rattle.std.specs.Prelude.{◌≡◌, ◌+◌, ◌≤◌, ◌<◌, ◌^◌, length, IfOk};
+ghost use Rattle.std.specs.Prelude.{◌≡◌, ◌+◌, ◌≤◌, ◌<◌, ◌^◌, length, IfOk, MatchResult, pos, negsuc};
 ghost use Rattle.packseq.specs.Input.{room, bytes_read, reading_after, AfterSome};
 
 use std::io::Read;
@@ -33,6 +33,7 @@ fn after_read(len: usize, got: isize, rest: &[u8]) -> Reading
 // What a read answered as one number: the bytes that it read, and where it failed -1.
 fn answer_of(read: std::io::Result<usize>) -> isize
     requires { IfOk read (λ n. n < 2 ^ 63) }
+    ensures { MatchResult read (λ n. result ≡ pos n) (λ e. result ≡ negsuc 0) }
 {
     match read {
         Ok(n) => n as isize,
