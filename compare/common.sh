@@ -17,7 +17,7 @@ compile() {
 # Without an archive there is nothing to compare, and that is a failure of the build before this one.
 need_archive() {
     [ -f "$archive" ] && return
-    echo "comparison: no archive $archive; build it first: rt staticlib fantailclock" >&2
+    echo "comparison: no archive $archive; build it first: bash scripts/build" >&2
     exit 1
 }
 
@@ -46,11 +46,11 @@ pad() {
     cc -c "$2.s" -o "$2"
 }
 
-# Puts the object of the archive $1, fantailclock.o, into the folder $2.
+# Puts the one object of the archive $1, whatever its name there, into the folder $2 as fantailclock.o.
 unpack() {
     mkdir -p "$2"
-    cp "$1" "$2/archive.a"
-    (cd "$2" && ar x archive.a)
+    [ "$(ar t "$1" | wc -l)" = 1 ] || { echo "$1 has more than one object, or none" >&2; exit 1; }
+    ar p "$1" >"$2/fantailclock.o"
 }
 
 # Makes the list of calls and what `replay` must print of it, as stdin and stdout of the folder $1. The archive plays no
