@@ -1,15 +1,17 @@
 -- The laws of a text's members that the crates above cite, for any coding.
 use mathlib.Core.Path.{◌≡◌, refl, sym, ap, ◌∙◌}
-use mathlib.Core.Bool.{Bool, true, false, cond, not, true≢false}
+use mathlib.Core.Bool.{Bool, true, false, cond, not, ◌&&◌, true≢false}
 use mathlib.Core.List.{List, [], ◌∷◌}
-use Prim.Native.Nat.{ℕ, zero, suc, ◌-◌, ◌≤◌, ◌<◌}
-use native.Mathlib.Nat.{le_of_suc-le-suc, not-suc-le-zero}
+use Prim.Native.Nat.{ℕ, zero, suc, ◌+◌, ◌-◌, ◌≤◌, ◌<◌}
+use native.Mathlib.Nat.{zero-add, le_of_suc-le-suc, not-suc-le-zero}
 use native.Mathlib.Omega.{arith}
-use lib.ListN.{length, take, drop}
+use lib.ListN.{length, take, drop, length-drop, drop_of_length-le}
+use lib.Seq.{take_all, get_or-take, get_or-drop, length-take-le}
 use Rattle.bits.specs.Tables.{at}
+use Rattle.bits.proofs.Computed.{both_true}
 use Rattle.bits.proofs.Counted.{many_rest, many_past, many_none, none_many}
 use Rattle.alphabet.specs.Symbols.{Coding}
-use Rattle.members.specs.Members.{members_ahead_of, bad_in}
+use Rattle.members.specs.Members.{members_ahead_of, all_members_of, bad_in, Members, Passed}
 
 module _ (A : Coding) where
   -- ---- the first non-member's place, or the end
@@ -58,6 +60,87 @@ module _ (A : Coding) where
   ahead_is (x ∷ text) (suc r) h members next =
       ap suc (ahead_is text r (le_of_suc-le-suc h) (λ j l. members (suc j) (omega arith)) (λ l. next (omega arith)))
       ∙ sym (rw (members 0 (omega arith)))
+
+  -- ---- the first bytes of a text, where they are members
+
+  pub passed_fewer : (text : List ℕ) (i n : ℕ) → i ≤ n → Passed A text n → Passed A text i
+  passed_fewer text i n h p = record { within = omega (arith, p.within); members = λ j l. p.members j (omega arith) }
+
+  -- those that the first h bytes begin with, as these are lent
+  pub passed_ahead : (text : List ℕ) (h m : ℕ) → h ≤ length text → m ≡ members_ahead_of A (take (h - 0) text) → Passed A text m
+  passed_ahead text h m within e =
+      let long : length (take (h - 0) text) ≡ h - 0 = length-take-le (h - 0) text (omega arith) in
+      let few : m ≤ h - 0 = omega (arith, e, long, ahead_within (take (h - 0) text)) in
+      record {
+        within = omega (arith, few);
+        members = λ j l. ap A.member (sym (get_or-take (h - 0) text j 0 (omega (arith, few)))) ∙ ahead_members (take (h - 0) text) j (omega (arith, e));
+      }
+
+  -- those that a part begins with, as it is lent
+  pub passed_part : (text : List ℕ) (h r : ℕ) → h ≤ length text → Passed A (take (length text - h) (drop h text)) r → (h + r ≤ length text) × Members A text h r
+  passed_part text h r within p =
+      let whole : take (length text - h) (drop h text) ≡ drop h text = take_all (length text - h) (drop h text) (omega (arith, length-drop h text)) in
+      let long : length (take (length text - h) (drop h text)) ≡ length text - h = ap length whole ∙ length-drop h text in
+      let each : (j : ℕ) → j < r → A.member (at text (h + j)) ≡ true =
+      λ j l. ap A.member (sym (ap (λ (xs : List ℕ). at xs j) whole ∙ get_or-drop h text j 0)) ∙ p.members j l in
+      (omega (arith, p.within, long), record { each = each })
+
+  -- behind r members the search goes on with the others, as they are lent
+  ahead_behind : (text : List ℕ) (r : ℕ) → r ≤ length text → ((j : ℕ) → j < r → A.member (at text j) ≡ true) → r + members_ahead_of A (drop r text) ≡ members_ahead_of A text
+  unfolding members_ahead_of
+  ahead_behind text zero h members = zero-add (members_ahead_of A text)
+  ahead_behind [] (suc r) h members = absurd (not-suc-le-zero h)
+  ahead_behind (x ∷ text) (suc r) h members =
+      let next : suc r + members_ahead_of A (drop r text) ≡ suc (r + members_ahead_of A (drop r text)) = omega arith in
+      next ∙ ap suc (ahead_behind text r (le_of_suc-le-suc h) (λ j l. members (suc j) (omega arith))) ∙ sym (rw (members 0 (omega arith)))
+
+  pub ahead_part : (text : List ℕ) (r : ℕ) → Passed A text r → r + members_ahead_of A (take (length text - r) (drop r text)) ≡ members_ahead_of A text
+  ahead_part text r p =
+      ap (λ (l : List ℕ). r + members_ahead_of A l) (take_all (length text - r) (drop r text) (omega (arith, length-drop r text)))
+      ∙ ahead_behind text r p.within p.members
+
+  -- ---- whether all bytes are members
+
+  -- of a text from place j on: byte j and those behind it
+  all_step : (text : List ℕ) (j : ℕ) → j < length text → all_members_of A (drop j text) ≡ (A.member (at text j) && all_members_of A (drop (suc j) text))
+  unfolding all_members_of
+  all_step [] j h = absurd (not-suc-le-zero h)
+  all_step (x ∷ text) zero h = refl
+  all_step (x ∷ text) (suc j) h = all_step text j (le_of_suc-le-suc h)
+
+  -- the first bytes asked, then byte j, and then the others
+  pub all_more : (text : List ℕ) (all m : Bool) (j : ℕ) → j < length text → m ≡ A.member (at text j)
+      → (all && all_members_of A (drop j text)) ≡ all_members_of A text → ((all && m) && all_members_of A (drop (j + 1) text)) ≡ all_members_of A text
+  all_more text all m j h e inv =
+      let next : j + 1 ≡ suc j = omega arith in
+      rw (next, e) (both all (A.member (at text j)) (all_members_of A (drop (suc j) text)) ∙ ap (λ (b : Bool). all && b) (sym (all_step text j h)) ∙ inv)
+    where
+      both : (a b c : Bool) → ((a && b) && c) ≡ (a && (b && c))
+      both true b c = refl
+      both false b c = refl
+
+  -- where none is left
+  pub all_end : (text : List ℕ) (all : Bool) (j : ℕ) → length text ≤ j → (all && all_members_of A (drop j text)) ≡ all_members_of A text → all ≡ all_members_of A text
+  unfolding all_members_of
+  all_end text all j h inv = go all ∙ ap (λ (l : List ℕ). all && all_members_of A l) (sym (drop_of_length-le text {i = j} h)) ∙ inv
+    where
+      go : (a : Bool) → a ≡ (a && true)
+      go true = refl
+      go false = refl
+
+  pub all_each : (text : List ℕ) → all_members_of A text ≡ true → (j : ℕ) → j < length text → A.member (at text j) ≡ true
+  unfolding all_members_of
+  all_each [] e j h = absurd (not-suc-le-zero h)
+  all_each (x ∷ text) e zero h = (both_true (A.member x) (all_members_of A text) e).0
+  all_each (x ∷ text) e (suc j) h = all_each text (both_true (A.member x) (all_members_of A text) e).1 j (le_of_suc-le-suc h)
+
+  -- of a part of a text, n bytes from place i on, as it is lent
+  pub all_part : (text : List ℕ) (i n end : ℕ) → end ≡ i + n → end ≤ length text → all_members_of A (take (end - i) (drop i text)) ≡ true → Members A text i n
+  all_part text i n end s h e =
+      let long : length (take (end - i) (drop i text)) ≡ end - i = length-take-le (end - i) (drop i text) (omega (arith, length-drop i text)) in
+      let lent : (j : ℕ) → j < n → at (take (end - i) (drop i text)) j ≡ at text (i + j) =
+      λ j l. get_or-take (end - i) (drop i text) j 0 (omega arith) ∙ get_or-drop i text j 0 in
+      record { each = λ j l. ap A.member (sym (lent j l)) ∙ all_each (take (end - i) (drop i text)) e j (omega (arith, long)) }
 
   -- ---- a text of one byte
 

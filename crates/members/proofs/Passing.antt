@@ -1,4 +1,4 @@
--- One law for each turn of this crate's loops.
+-- One law for each turn of this crate's loops. The crate packing cites those of what is passed.
 use mathlib.Core.Path.{◌≡◌, sym, ap, ◌∙◌}
 use mathlib.Core.Bool.{Bool, true, false, cond, not}
 use mathlib.Core.List.{List}
@@ -34,6 +34,16 @@ module _ (A : Coding) (text : List ℕ) where
       go j l (no k) =
           let same : i + (j - i) ≡ j = omega arith in
           sym (ap (λ (x : ℕ). A.member (at text x)) same) ∙ more.each (j - i) (omega arith)
+
+  -- two stretches, of which the first need not begin with the text
+  pub members_more : (i n m : ℕ) → Members A text i n → Members A text (i + n) m → Members A text i (n + m)
+  members_more i n m first more = record { each = λ j l. go j l (dec_lt j n) }
+    where
+      go : (j : ℕ) → j < n + m → Dec (j < n) → A.member (at text (i + j)) ≡ true
+      go j l (yes k) = first.each j k
+      go j l (no k) =
+          let same : i + n + (j - n) ≡ i + j = omega arith in
+          sym (ap (λ (x : ℕ). A.member (at text x)) same) ∙ more.each (j - n) (omega arith)
 
   -- the last n, of which some may be passed already
   pub passed_end : (i from n : ℕ) → Passed A text i → from ≤ i → from + n ≡ length text → Members A text from n → Passed A text (length text)

@@ -1,6 +1,6 @@
 -- The members of an alphabet in a text. States for document 01, questions 8 and 10, which byte of a text is its first non-member, and for request A5 how many
 -- non-members it has. A text is looked at as it came: the choice to fold is in the coding.
-use Rattle.std.specs.Prelude.{ℕ, suc, ◌+◌, ◌<◌, ◌≤◌, ◌≡◌, true, cond, not, List, [], ◌∷◌, length}
+use Rattle.std.specs.Prelude.{ℕ, suc, ◌+◌, ◌<◌, ◌≤◌, ◌≡◌, Bool, true, cond, not, ◌&&◌, List, [], ◌∷◌, length}
 use Rattle.bits.specs.Tables.{at}
 use Rattle.bits.specs.Counts.{how_many}
 use Rattle.alphabet.specs.Symbols.{Coding}
@@ -9,6 +9,11 @@ use Rattle.alphabet.specs.Symbols.{Coding}
 unfoldable pub members_ahead_of : Coding → List ℕ → ℕ
 members_ahead_of A [] = 0
 members_ahead_of A (x ∷ xs) = cond (A.member x) (suc (members_ahead_of A xs)) 0
+
+-- whether all of its bytes are members
+unfoldable pub all_members_of : Coding → List ℕ → Bool
+all_members_of A [] = true
+all_members_of A (x ∷ xs) = A.member x && all_members_of A xs
 
 -- how many of its bytes are no members
 abbrev pub bad_in : Coding → List ℕ → ℕ
