@@ -4,13 +4,13 @@ use mathlib.Core.Path.{◌≡◌, refl, sym, ap, ap₂, ◌∙◌}
 use mathlib.Core.Bool.{Bool}
 use mathlib.Core.List.{List, [], ◌∷◌, ◌++◌, map, append_assoc, append-nil}
 use Prim.Native.Nat.{ℕ, zero, suc, ◌+◌, ◌-◌, ◌*◌, ◌/◌, ◌%◌, ◌^◌, ◌≤◌, ◌<◌}
-use native.Mathlib.Nat.{add-mul, mul_assoc, mul-le-mul_right, div-lt_iff_lt-mul, mul-add-div_right, mul-add-mod_self_right}
+use native.Mathlib.Nat.{zero-mul, add-mul, mul_comm, mul_assoc, mul-le-mul_right, div-lt_iff_lt-mul, mul-add-div_right, mul-add-mod_self_right}
 use native.Mathlib.Decide.{dec_lt}
 use native.Mathlib.Omega.{arith}
 use borrow.Author.Tests.{lt-ltb, le-ltb}
 use lib.ListN.{length, take, drop, length-map, length-drop, drop_of_length-le}
-use lib.Seq.{take_all, take_at, drop_at, drop-drop, get_or-take, get_or-drop, length-take-le}
-use Rattle.bits.specs.Tables.{at}
+use lib.Seq.{take_all, take_at, take-take, take-add, drop_at, drop-drop, get_or-take, get_or-drop, length-take-le}
+use Rattle.bits.specs.Tables.{at, tabulate}
 use Rattle.bits.specs.Streams.{bit_at, word, after, cut}
 use Rattle.bits.specs.Packing.{at_hand}
 use Rattle.bits.specs.Memory.{front}
@@ -172,3 +172,78 @@ pub blocks_place : (b c m k : ℕ) → c * b ≡ m * 8 → 0 + k * c * b ≡ k *
 blocks_place b c m k e =
     let both : k * c * b ≡ k * m * 8 = mul_assoc k c b ∙ ap (λ (x : ℕ). k * x) e ∙ sym (mul_assoc k m 8) in
     omega (arith, both)
+
+-- 64 symbols of b bits are 8 · b bytes
+pub blocks_bytes : (b k : ℕ) → k * 64 * b ≡ k * 8 * b * 8
+blocks_bytes b k =
+    let eight : k * 64 ≡ k * 8 * 8 = omega arith in
+    ap (λ (x : ℕ). x * b) eight ∙ mul_assoc (k * 8) 8 b ∙ ap (λ (x : ℕ). k * 8 * x) (mul_comm 8 b) ∙ sym (mul_assoc (k * 8) b 8)
+
+-- a run over n symbols that fill w bytes, and one over the m behind them, as these are lent, are one over all of them
+module _ (b : ℕ) (g : ℕ → ℕ) (text memory : List ℕ) (ready : Ready b 0 0 (length text) (length memory)) (n m w : ℕ) (within : n + m ≤ length text) (place : n * b ≡ w * 8) where
+  abbrev both : List ℕ
+  both = take (n + m) text
+
+  long : length both ≡ n + m
+  long = length-take-le (n + m) text within
+
+  both_ready : Ready b 0 0 (length both) (length memory)
+  both_ready =
+      let up : length both * b ≤ length text * b = mul-le-mul_right b (let z : length both ≤ length text = omega (arith, long) in z) in
+      let old : Pends b 0 0 (length text) = ready.pends in
+      record {
+        pends = record { some = old.some; narrow = old.narrow; few = old.few; small = old.small; bounded = omega (arith, long, old.bounded) };
+        fits = omega (arith, up, ready.fits);
+      }
+
+  there : 0 + n * b ≡ w * 8 + 0
+  there = omega (arith, place)
+
+  first : take n both ≡ take n text
+  first = take-take n (n + m) text (omega arith)
+
+  rest : part both n ≡ take (n + m - n) (drop n text)
+  rest =
+      let count : n + m - n ≡ m = omega arith in
+      let short : length (take n text) ≡ n = length-take-le n text (omega arith) in
+      part_is both n
+      ∙ ap (drop n) (take-add n m text)
+      ∙ drop_at (take n text) (take m (drop n text)) n short
+      ∙ ap (λ (k : ℕ). take k (drop n text)) (sym count)
+
+  pub more_room : w ≤ length memory
+  more_room = room b 0 0 g both memory both_ready n w 0 0 (omega (arith, long)) (omega arith) there (nothing_held (at_hand 0 0 b (map g both)) (w * 8))
+
+  -- they have memory
+  pub block_long : length (take (n + m - n) (drop n text)) ≡ m
+  block_long = length-take-le (n + m - n) (drop n text) (omega (arith, length-drop n text)) ∙ (let z : n + m - n ≡ m = omega arith in z)
+
+  pub more_fits : (out : List ℕ) → length out ≡ length memory → length (take (n + m - n) (drop n text)) * b / 8 ≤ length (part out w)
+  more_fits out kept =
+      let behind : length (part out w) ≡ length memory - w = ap length (part_is out w) ∙ length-drop w out ∙ ap (λ (x : ℕ). x - w) kept in
+      let up : (n + m) * b ≤ length text * b = mul-le-mul_right b within in
+      rw (block_long, behind) (omega (arith, up, add-mul n m b, place, ready.fits))
+
+  pub ran_more : (out ys : List ℕ) → out ≡ ran b 0 0 (map g (take n text)) memory → ys ≡ ran b 0 0 (map g (take (n + m - n) (drop n text))) (part out w)
+      → take w out ++ (ys ++ drop (length out - w) (drop w out)) ≡ ran b 0 0 (map g (take (n + m) text)) memory
+  ran_more out ys e h =
+      let inside : n ≤ length both = omega (arith, long) in
+      let held = nothing_held (at_hand 0 0 b (map g both)) (w * 8) in
+      ran_behind b 0 0 g both memory both_ready n w 0 0 inside (omega arith) there held out ys
+      (e ∙ ap (λ (l : List ℕ). ran b 0 0 (map g l) memory) (sym first) ∙ ran_head b 0 0 g both memory both_ready n w 0 0 inside (omega arith) there held)
+      (h ∙ ap (λ (l : List ℕ). ran b 0 0 (map g l) (part out w)) (sym rest))
+
+-- a run over no symbols leaves memory as it is
+pub ran_none : (b : ℕ) (g : ℕ → ℕ) (text memory : List ℕ) → memory ≡ ran b 0 0 (map g (take (0 * 64) text)) memory
+unfolding cut tabulate
+ran_none b g text memory =
+    let none : (0 + 0 * b) / 8 ≡ 0 = omega (arith, zero-mul b) in
+    sym (ap (λ (n : ℕ). front (cut 8 (at_hand 0 0 b []) 0 n) memory) none)
+
+-- whole blocks of eight symbols, packed by themselves, are a run
+pub ran_eights : (b : ℕ) (given memory out : List ℕ) (n : ℕ) → length given ≡ n * 8 → out ≡ front (cut 8 (bit_at b (at given)) 0 (n * b)) memory → out ≡ ran b 0 0 given memory
+ran_eights b given memory out n long e =
+    let turned : n * 8 * b ≡ n * b * 8 = mul_assoc n 8 b ∙ ap (λ (x : ℕ). n * x) (mul_comm 8 b) ∙ sym (mul_assoc n b 8) in
+    let bits : length given * b ≡ n * b * 8 = ap (λ (x : ℕ). x * b) long ∙ turned in
+    let count : n * b ≡ (0 + length given * b) / 8 = omega (arith, bits) in
+    e ∙ front-plain b (n * b) given memory ∙ ap (λ (k : ℕ). front (cut 8 (at_hand 0 0 b given) 0 k) memory) count

@@ -9,7 +9,7 @@ use native.Mathlib.Decide.{dec_lt}
 use native.Mathlib.Omega.{arith}
 use lib.ListN.{length, take, drop, length-drop, drop_of_length-le, take-append-drop}
 use lib.Seq.{take_all, length-take-le}
-use Rattle.bits.specs.Tables.{tabulate}
+use Rattle.bits.specs.Tables.{tabulate, Bytes}
 use Rattle.bits.specs.Streams.{word, cut}
 use Rattle.bits.specs.Packing.{at_hand}
 use Rattle.bits.specs.Memory.{front}
@@ -17,6 +17,8 @@ use Rattle.alphabet.specs.declared.kind.AlphabetType.{AlphabetType}
 use Rattle.alphabet.specs.declared.kind.AlphabetType.TheVariants.{Dna2bit, Dna3bit, DnaIupac, Protein, Ascii, Unknown}
 use Rattle.alphabet.specs.Symbols.{Coding, coding_by}
 use Rattle.alphabet.proofs.Laws.{widths}
+use Rattle.members.specs.Members.{Passed}
+use Rattle.members.proofs.Passing.{ascii_passed, unknown_passed}
 use Rattle.packing.specs.Encode.{digits_of}
 use Rattle.packing.specs.Run.{Pends, Ready, Narrow, ran}
 use Rattle.packing.proofs.Behind.{part, part_is, ready_behind, ran_head, ran_behind, nothing_held}
@@ -31,6 +33,15 @@ two_to_five fold DnaIupac h = (omega (arith, widths.of_dna_iupac), h)
 two_to_five fold Protein h = (omega (arith, widths.of_protein), h)
 two_to_five fold Ascii h = (omega (arith, widths.of_ascii), h)
 two_to_five fold Unknown h = (omega (arith, widths.of_unknown), h)
+
+-- and one of eight or more has no non-members
+pub wide_passed : (fold : Bool) (k : AlphabetType) (text : List ℕ) → Bytes text → 8 ≤ (coding_by fold k).width → Passed (coding_by fold k) text (length text)
+wide_passed fold Dna2bit text bytes h = absurd (omega (arith, widths.of_dna2bit))
+wide_passed fold Dna3bit text bytes h = absurd (omega (arith, widths.of_dna3bit))
+wide_passed fold DnaIupac text bytes h = absurd (omega (arith, widths.of_dna_iupac))
+wide_passed fold Protein text bytes h = absurd (omega (arith, widths.of_protein))
+wide_passed fold Ascii text bytes h = ascii_passed fold text bytes
+wide_passed fold Unknown text bytes h = unknown_passed fold text bytes
 
 -- ---- the symbols before the next place that eight divides
 

@@ -2,6 +2,7 @@
 ghost use Rattle.std.specs.Prelude.{◌≡◌, ◌+◌, ◌≤◌, length};
 ghost use Rattle.alphabet.specs.Symbols.{coding_by};
 ghost use Rattle.alphabet.specs.Questions.{limit};
+ghost use Rattle.members.specs.Members.{members_ahead_of, Passed};
 ghost use Rattle.packing.specs.Encode.{bad_from_of, or_first_of, both_bad_of};
 
 use crate::first::First;
@@ -16,12 +17,25 @@ pub struct Bad {
     pub count: usize,
 }
 
-// The non-members of a text whose first byte has position `from`. They are counted from the first one on, so that a text without one is searched once and no more.
-pub fn bad_from(kind: AlphabetType, fold: bool, from: usize, text: &[u8]) -> Bad
-    requires { from + length text.now ≤ limit }
+// The place of a text's first non-member, or its length, where its first bytes, as many as were passed, are known to be members.
+fn ahead_from(kind: AlphabetType, fold: bool, text: &[u8], passed: usize) -> usize
+    requires { Passed (coding_by fold kind) text.now passed }
+    ensures { result ≡ members_ahead_of (coding_by fold kind) text.now }
+{
+    if text.len() <= passed {
+        return passed;
+    }
+    passed + members_ahead(kind, fold, &text[passed..])
+}
+
+// The non-members of a text whose first byte has position `from`, and whose first bytes, as many as were passed, are known to be members. They are counted from the first
+// one on, so that a text without one is searched once and no more.
+pub fn bad_behind(kind: AlphabetType, fold: bool, from: usize, text: &[u8], passed: usize) -> Bad
+    requires bounded { from + length text.now ≤ limit }
+    requires known { Passed (coding_by fold kind) text.now passed }
     ensures { result ≡ bad_from_of (coding_by fold kind) from text.now }
 {
-    let i = members_ahead(kind, fold, text);
+    let i = ahead_from(kind, fold, text, passed);
     if i < text.len() {
         return Bad {
             first: First::At {
@@ -35,6 +49,14 @@ pub fn bad_from(kind: AlphabetType, fold: bool, from: usize, text: &[u8]) -> Bad
         first: First::Nothing,
         count: 0,
     }
+}
+
+// The same of a text of which nothing is known.
+pub fn bad_from(kind: AlphabetType, fold: bool, from: usize, text: &[u8]) -> Bad
+    requires { from + length text.now ≤ limit }
+    ensures { result ≡ bad_from_of (coding_by fold kind) from text.now }
+{
+    bad_behind(kind, fold, from, text, 0)
 }
 
 // A first non-member that is known stays.

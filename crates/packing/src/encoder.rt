@@ -5,7 +5,7 @@ ghost use Rattle.packing.specs.Encode.{packs_by, sound_bad, sound_encoder, start
 ghost use Rattle.packing.specs.Run.{Tabled, due_at};
 ghost use Rattle.alphabet.specs.Symbols.{coding_by};
 
-use crate::bad::{Bad, bad_from, both_bad};
+use crate::bad::{Bad, bad_behind, bad_from, both_bad};
 use crate::first::First;
 use crate::run::{left_over, pack};
 use crate::table::{lay_digits, ones};
@@ -199,19 +199,18 @@ impl SequenceEncoder {
         match self.due(piece.len(), out.len()) {
             Due::Refused(refusal) => Updated::Refused(refusal, self),
             Due::Bytes(count) => {
-                let found = bad_from(kind, self.fold, self.seen, piece);
-                let strangers = found.count;
-                let next = self.next(&table, piece, found);
-                pack(
+                let passed = pack(
                     kind,
                     self.fold,
-                    strangers == 0,
+                    false,
                     &table,
                     self.seen,
                     self.pending as u64,
                     piece,
                     out,
                 );
+                let found = bad_behind(kind, self.fold, self.seen, piece, passed);
+                let next = self.next(&table, piece, found);
                 Updated::Wrote(count, next)
             }
         }

@@ -7,10 +7,12 @@ ghost use Rattle.bits.specs.Streams.{bit_at, cut};
 ghost use Rattle.bits.specs.Memory.{put_at};
 ghost use Rattle.alphabet.specs.Symbols.{coding_by};
 ghost use Rattle.alphabet.specs.declared.kind.AlphabetType.TheVariants.{Dna2bit};
+ghost use Rattle.members.specs.Members.{Members, Passed};
 ghost use Rattle.packing.specs.Encode.{digit_of, digits_of};
 ghost use Rattle.packing.specs.Run.{Clean, ran};
 
-use alphabet::telling_bits;
+use alphabet::{AlphabetType, telling_bits};
+use members::all_members;
 
 // A base as it is, and G, whose code is all ones, for any other byte. A and C differ in one bit, so that one comparison tells both.
 fn tame(x: u8) -> u8
@@ -43,7 +45,7 @@ fn digit(fold: bool, clean: bool, x: u8) -> u8
 
 // The digits of 64 bytes, from byte i on, a byte each.
 fn codes_of(fold: bool, clean: bool, text: &[u8], i: usize) -> [u8; 64]
-    requires { (i + 64 ≤ length text.now) × Clean clean (coding_by fold Dna2bit) text.now }
+    requires { (i + 64 ≤ length text.now) × (clean ≡ true → Members (coding_by fold Dna2bit) text.now i 64) }
     ensures { result ≡ tabulate 64 (λ j. digit_of (coding_by fold Dna2bit) (at text.now (i + j))) }
 {
     let mut codes = [0u8; 64];
@@ -96,7 +98,7 @@ fn packed16(codes: &[u8; 64]) -> [u8; 16]
 // Packs 64 bytes, from byte i on, into 16, from place w on. The arrays are whole before one byte is stored: output that might be the text would make the compiler go
 // byte by byte.
 fn put_64(fold: bool, clean: bool, text: &[u8], i: usize, out: &mut [u8], w: usize)
-    requires { (i + 64 ≤ length text.now) × ((w + 16 ≤ length out.old) × Clean clean (coding_by fold Dna2bit) text.now) }
+    requires { (i + 64 ≤ length text.now) × ((w + 16 ≤ length out.old) × (clean ≡ true → Members (coding_by fold Dna2bit) text.now i 64)) }
     ensures { out.new ≡ put_at w (cut 8 (bit_at 2 (λ j. digit_of (coding_by fold Dna2bit) (at text.now j))) (i * 2) 16) out.old }
 {
     let codes = codes_of(fold, clean, text, i);
@@ -116,6 +118,25 @@ pub fn pack_fours(fold: bool, clean: bool, text: &[u8], out: &mut [u8]) -> usize
     let mut b = 0;
     while b < n {
         put_64(fold, clean, text, b * 64, out, b * 16);
+        b += 1;
+    }
+    n
+}
+
+// Packs the blocks of 64 members that a text begins with, each as soon as it is known to be one, so that the text is read once. The answer is how many they are.
+pub fn fours_of_members(fold: bool, text: &[u8], out: &mut [u8]) -> usize
+    requires { length text.now / 64 * 16 ≤ length out.old }
+    ensures passed { Passed (coding_by fold Dna2bit) text.now (result * 64) }
+    ensures wrote { out.new ≡ ran 2 0 0 (digits_of (coding_by fold Dna2bit) (take (result * 64) text.now)) out.old }
+{
+    let n = text.len() / 64;
+    let mut b = 0;
+    while b < n {
+        let i = b * 64;
+        if !all_members(AlphabetType::Dna2bit, fold, &text[i..i + 64]) {
+            return b;
+        }
+        put_64(fold, true, text, i, out, b * 16);
         b += 1;
     }
     n

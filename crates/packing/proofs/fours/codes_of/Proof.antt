@@ -29,10 +29,7 @@ shared-slice-read-digit : tie.Need-bounds-text-i invariant-loop decreases-loop
 shared-slice-read-digit c = search rules
 
 digit-requires : tie.Need-digit-requires invariant-loop decreases-loop
-digit-requires c κs =
-    let h = c in
-    let s = h in
-    λ e. s.requires.1 e (s.args.i + h.loop-j.j) (omega (arith, s.requires.0, c.loop-j-test.true))
+digit-requires c κs = λ e. (c.requires.1 e).each c.loop-j.j c.loop-j-test.true
 
 array-write-codes : tie.Need-bounds-codes-j invariant-loop decreases-loop
 array-write-codes c = search rules

@@ -36,7 +36,9 @@ mul-put-64-2 c = search rules
 put-64-requires : tie.Need-put_64-requires invariant-loop decreases-loop
 put-64-requires c κs =
     let i = c in
-    (omega (arith, i.loop-b-test.true), (rw i.loop-b.invariant.2 (room i.before), (start i.before.before).requires.1))
+    let b : ℕ = i.loop-b.b in
+    let within : b * 64 + 64 ≤ length (start i.before.before).args.text.now = omega (arith, i.loop-b-test.true) in
+    (within, (rw i.loop-b.invariant.2 (room i.before), λ e. record { each = λ j l. (start i.before.before).requires.1 e (b * 64 + j) (omega (arith, within)) }))
 
 add-b : tie.Need-overflow_add-b invariant-loop decreases-loop
 add-b c = search rules

@@ -41,7 +41,7 @@ out k = k.pack.new.out
 wrote : (k : tie.After-pack) → out k ≡ ran (coding_of (start k)).width 0 0 (digits (start k)) (start k).args.out.now
 wrote k =
     let s = start k in
-    k.pack.ensures ∙ ap (λ (p : ℕ). ran (coding_of s).width p 0 (digits s) s.args.out.now) (no_bits s)
+    k.pack.ensures.1 ∙ ap (λ (p : ℕ). ran (coding_of s).width p 0 (digits s) s.args.out.now) (no_bits s)
 
 -- where the width is told
 abbrev packed : tie.After-bits_per_symbol-b → tie.After-pack
