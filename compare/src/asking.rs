@@ -4,7 +4,9 @@
 use crate::case::{Call, Entry, Numbers, Step};
 use crate::check::{Checker, Go};
 use crate::model::{Intake, LIMIT};
-use crate::packing::{bad, clean_state, completed, forged_counts, forged_state, intakes, room_near, sound_state};
+use crate::packing::{
+    bad, clean_state, completed, forged_counts, forged_state, halved, intakes, room_near, sound_state,
+};
 use crate::random::{beyond, Random};
 
 /// The longest memory that is lent.
@@ -25,7 +27,8 @@ pub fn cases(check: &mut Checker, random: &mut Random, scale: u64) -> Go {
             random_list(check, random, intake)?;
         }
     }
-    beyond_alphabets(check, random)
+    beyond_alphabets(check, random)?;
+    intakes().into_iter().try_for_each(|intake| halves(check, random, intake))
 }
 
 /// An ask; then, where memory of that length can be lent, the list of that one piece.
@@ -148,6 +151,15 @@ fn long_pieces(check: &mut Checker, random: &mut Random, intake: Intake) -> Go {
         for room in [enough - 1, enough, u64::MAX] {
             put(check, &state, &piece, room)?;
         }
+    }
+    Ok(())
+}
+
+/// Pieces around the length from which a search goes by halves.
+fn halves(check: &mut Checker, random: &mut Random, intake: Intake) -> Go {
+    for piece in halved(random, intake) {
+        let state = sound_state(random, intake);
+        put(check, &state, &piece, completed(&state, piece.len()) as u64)?;
     }
     Ok(())
 }

@@ -42,6 +42,7 @@ faults! {
     AlphabeticalCodes Packing "Dna2bit packs by codes in alphabetical order",
     MaskedBeforeTest Packing "FF is masked to the width before the member test, so N passes as G",
     StrangerAsZeros Packing "a non-member packs as zeros",
+    FirstHalfSearched Packing "encode_sequence looks for non-members of 16,384 bytes and more in their first half alone",
     PiecePosition Packing "a position is counted from the latest piece",
     LatestStranger Packing "the latest non-member replaces the first",
     PendingLost Packing "a pending bit is lost",
@@ -200,6 +201,7 @@ faults! {
     AskForgets Asking "an ask forgets the choice",
     AskUnchosen Asking "an ask keeps the choice and does not fold",
     AskFirstChunk Asking "an ask looks for non-members in the first 4,096 bytes alone",
+    AskFirstHalf Asking "an ask of 16,384 bytes and more looks for non-members in the first half alone",
     UpdateWantsMore Asking "an update refuses the memory that an ask tells to be just enough",
     UpdateLeavesOther Asking "an update leaves another bit pending than an ask tells",
 
@@ -231,6 +233,10 @@ impl Fault {
             (Fault::AlphabetNarrowed, _) if call.alphabet().is_some() => numbers[0] &= 0xFF,
             (Fault::AlphabeticalCodes, _) if two_bit => swap(text, b"ACGT", b"TCAG"),
             (Fault::MaskedBeforeTest, _) if two_bit => replace_strangers(intake(call), text, b'G'),
+            (Fault::FirstHalfSearched, Entry::EncodeSequence) if text.len() >= 16_384 => {
+                let half = text.len() / 2;
+                replace_strangers(intake(call), &mut text[half..], b'A');
+            }
             (Fault::StrangerAsZeros, Entry::EncoderUpdate) if numbers[0] < 4 => {
                 replace_strangers(intake(call), text, model::LISTS[numbers[0] as usize][0]);
             }
@@ -687,6 +693,10 @@ impl Fault {
             Fault::AskUnchosen if *fold == 1 => *fold = 0,
             Fault::AskOneTooFew => *room = room.saturating_add(1),
             Fault::AskNarrowed => *room &= 0xFFFF_FFFF,
+            Fault::AskFirstHalf if call.text.len() >= 16_384 => {
+                let half = call.text.len() / 2;
+                replace_strangers(intake, &mut call.text[half..], b'A');
+            }
             Fault::AskFirstChunk if call.text.len() > 4096 => {
                 replace_strangers(intake, &mut call.text[4096..], b'A');
             }

@@ -28,7 +28,8 @@ pub fn cases(check: &mut Checker, random: &mut Random, scale: u64) -> Go {
     }
     beyond_alphabets(check, random)?;
     byte_ranges(check, random, scale)?;
-    intakes().into_iter().try_for_each(|intake| long_runs(check, random, intake))
+    intakes().into_iter().try_for_each(|intake| long_runs(check, random, intake))?;
+    intakes().into_iter().try_for_each(|intake| halves(check, random, intake))
 }
 
 /// Every alphabet under both choices.
@@ -144,6 +145,32 @@ fn long_runs(check: &mut Checker, random: &mut Random, intake: Intake) -> Go {
             let state = sound_state(random, intake);
             check.call(&Call::new(Entry::EncoderUpdate, &state).text(&text).room(completed(&state, len)))?;
         }
+    }
+    Ok(())
+}
+
+/// Texts around the length from which a search goes by halves of whole blocks, with no non-member and with one at the ends of
+/// either half and behind them.
+pub fn halved(random: &mut Random, intake: Intake) -> Vec<Vec<u8>> {
+    let mut texts = Vec::new();
+    for len in [16_383, 16_384, 16_385, 16_447, 16_448, 16_511, 16_512, 20_001] {
+        let half = len / 128 * 64;
+        for place in [len, 0, 63, half - 64, half - 1, half, half + 63, 2 * half - 1, 2 * half, len - 1] {
+            let mut text = random.members(intake, len);
+            if place < len {
+                text[place] = random.stranger(intake);
+            }
+            texts.push(text);
+        }
+    }
+    texts
+}
+
+fn halves(check: &mut Checker, random: &mut Random, intake: Intake) -> Go {
+    for text in halved(random, intake) {
+        sequence(check, random, intake, &text, need(intake, text.len()))?;
+        let state = sound_state(random, intake);
+        check.call(&Call::new(Entry::EncoderUpdate, &state).text(&text).room(completed(&state, text.len())))?;
     }
     Ok(())
 }

@@ -57,17 +57,19 @@ fn ask(bench: &mut Bench, sample: &Sample, piece: usize, packed: &[u8]) {
     }
 }
 
-/// The port folding a soft-masked text, beside the port and the Rust on the text in uppercase. Ascii does not fold: there
-/// the packing is that of the soft-masked text.
+/// The port folding a soft-masked text, beside the port and the Rust on the text in uppercase, each on a copy of its own:
+/// a text that another side has just read comes from a nearer cache. Ascii does not fold: there the packing is that of the
+/// soft-masked text.
 fn folded(bench: &mut Bench, sample: &Sample) {
     let (upper, soft) = (sample.text.to_ascii_uppercase(), soft_masked(&sample.text));
+    let plain_text = upper.clone();
     let plain = encode_sequence(&upper, sample.table).expect("members only");
     let packed = if sample.number < 4 { plain.clone() } else { encode_sequence(&soft, sample.table).expect("members") };
     let (mut out, mut plain_out) = (vec![0x5A; packed.len()], vec![0x5A; packed.len()]);
     let name = format!("folded update {PIECE} {}", sample.name);
     let update = row(&name, sample, &packed);
     let mut port = || _ = black_box(port_update(sample, 1, &soft, PIECE, &mut out));
-    let mut unfolded = || _ = black_box(port_update(sample, 0, &upper, PIECE, &mut plain_out));
+    let mut unfolded = || _ = black_box(port_update(sample, 0, &plain_text, PIECE, &mut plain_out));
     bench.beside(&update, &mut port, &mut || _ = black_box(rust_update(sample, &upper, PIECE)), &mut unfolded);
     check(bench, &update, &out, &packed);
     check(bench, &update, &plain_out, &plain);
@@ -76,7 +78,7 @@ fn folded(bench: &mut Bench, sample: &Sample) {
     let name = format!("folded encode_sequence {}", sample.name);
     let sequence = row(&name, sample, &packed);
     let mut port = || port_sequence(sample, 1, &soft, &mut out);
-    let mut unfolded = || port_sequence(sample, 0, &upper, &mut plain_out);
+    let mut unfolded = || port_sequence(sample, 0, &plain_text, &mut plain_out);
     bench.beside(&sequence, &mut port, &mut || rust_sequence(sample, &upper), &mut unfolded);
     check(bench, &sequence, &out, &packed);
     check(bench, &sequence, &plain_out, &plain);
