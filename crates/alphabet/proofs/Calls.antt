@@ -1,5 +1,7 @@
 -- The laws of the calls: what an answer tells by number, and the guesser's calls one after another.
-use Rattle.std.proofs.Common.{◌≡◌, ℕ, zero, suc, ◌<◌, ◌≤◌, max, Bool, true, false, cond, ◌&&◌, eqb, leb, List, [], ◌∷◌, ◌++◌, length, get_or, take, replicate, sym, refl, ap, ◌∙◌, subst, ap₂, true≢false, le_of_suc-le-suc, not-suc-le-zero, arith, lit≤, eqb-true, le-leb, leb-false, leb-true}
+use Rattle.std.proofs.Common.{◌≡◌, ℕ, zero, suc, ◌<◌, ◌≤◌, max, Bool, true, false, cond, ◌&&◌, eqb, leb, List, [], ◌∷◌, ◌++◌, length, get_or}
+use Rattle.std.proofs.Common.{take, replicate, sym, refl, ap, ◌∙◌, subst, ap₂, true≢false, le_of_suc-le-suc, not-suc-le-zero, arith, lit≤, eqb-true, le-leb}
+use Rattle.std.proofs.Common.{leb-false, leb-true}
 use mathlib.Core.Option.{some, some-injective, none-ne-some}
 use borrow.Author.Tests.{lt-leb}
 use denote.Enum.Declared.{tag_of}

@@ -1,6 +1,7 @@
 -- Request A9: how guesses combine. Each list of document 01 has the letters of the one before it, and Ascii every byte. So a byte's mask is that of all alphabets from
 -- one place of the order on, a text's place is the farthest of its bytes', and the guess is the alphabet there.
-use Rattle.std.proofs.Common.{◌≡◌, ℕ, zero, suc, ◌-◌, ◌^◌, ◌<◌, ◌≤◌, max, Bool, true, false, ◌&&◌, eqb, leb, List, [], ◌∷◌, ◌++◌, map, length, get_or, sym, refl, ap, ◌∙◌, subst, ap₂, le_of_suc-le-suc, not-suc-le-zero, arith, lit<, lit≤, eqb→eq, le-leb, leb-true}
+use Rattle.std.proofs.Common.{◌≡◌, ℕ, zero, suc, ◌-◌, ◌^◌, ◌<◌, ◌≤◌, max, Bool, true, false, ◌&&◌, eqb, leb, List, [], ◌∷◌, ◌++◌, map}
+use Rattle.std.proofs.Common.{length, get_or, sym, refl, ap, ◌∙◌, subst, ap₂, le_of_suc-le-suc, not-suc-le-zero, arith, lit<, lit≤, eqb→eq, le-leb, leb-true}
 use mathlib.Core.List.Perm
 use mathlib.Core.List.{foldl, foldr, flatten, Perm}
 use native.Mathlib.Nat.{ℕ_set}

@@ -1,5 +1,7 @@
 -- The laws of masks: what each bit of a byte's mask says, what a text leaves of a mask, and which alphabet a mask gives.
-use Rattle.std.proofs.Common.{◌≡◌, ℕ, zero, suc, ◌+◌, ◌-◌, ◌*◌, ◌/◌, ◌%◌, ◌^◌, ◌<◌, ◌≤◌, Bool, true, false, cond, ◌&&◌, eqb, List, [], ◌∷◌, ◌++◌, length, get_or, sym, refl, ap, ◌∙◌, subst, ap₂, true≢false, le_trans, le_refl, le_of_suc-le-suc, not-suc-le-zero, mod-lt, mul_comm, pow-suc, arith, lit<, lit≤, eqb→eq, lt-ltb, eq-eqb, eqb-true}
+use Rattle.std.proofs.Common.{◌≡◌, ℕ, zero, suc, ◌+◌, ◌-◌, ◌*◌, ◌/◌, ◌%◌, ◌^◌, ◌<◌, ◌≤◌, Bool, true, false, cond, ◌&&◌, eqb, List}
+use Rattle.std.proofs.Common.{[], ◌∷◌, ◌++◌, length, get_or, sym, refl, ap, ◌∙◌, subst, ap₂, true≢false, le_trans, le_refl, le_of_suc-le-suc, not-suc-le-zero}
+use Rattle.std.proofs.Common.{mod-lt, mul_comm, pow-suc, arith, lit<, lit≤, eqb→eq, lt-ltb, eq-eqb, eqb-true}
 use native.Mathlib.Nat.{pow-zero, div-div-eq-div-mul}
 use lib.Bits.{bit_and, and_shr, and_mod, and_le_l}
 use lib.Count.{count_trailing_zeros}

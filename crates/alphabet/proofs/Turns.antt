@@ -1,5 +1,7 @@
 -- One law for each turn of this crate's loops.
-use Rattle.std.proofs.Common.{◌≡◌, ℕ, suc, ◌+◌, ◌-◌, ◌<◌, ◌≤◌, Bool, true, false, cond, ◌&&◌, ◌||◌, eqb, ◌⊎◌, List, [], ◌∷◌, map, length, get_or, drop, set, sym, refl, ap, ◌∙◌, inl, inr, add-one, arith, length-set, drop_of_length-le, get_or-drop, drop-cons, get_or-set_other, lt-ltb, eq-eqb, ne_eqb}
+use Rattle.std.proofs.Common.{◌≡◌, ℕ, suc, ◌+◌, ◌-◌, ◌<◌, ◌≤◌, Bool, true, false, cond, ◌&&◌, ◌||◌, eqb, ◌⊎◌, List, [], ◌∷◌, map}
+use Rattle.std.proofs.Common.{length, get_or, drop, set, sym, refl, ap, ◌∙◌, inl, inr, add-one, arith, length-set, drop_of_length-le, get_or-drop, drop-cons}
+use Rattle.std.proofs.Common.{get_or-set_other, lt-ltb, eq-eqb, ne_eqb}
 use native.Mathlib.Decide.{dec_lt}
 use lib.Bits.{bit_and}
 use lib.Seq.{drop-length}

@@ -1,5 +1,7 @@
 -- Codes that an alphabet's own list lacks: what `first_lacking_of` says of a window, how far bases may be passed, and eleven codes at once.
-use Rattle.std.proofs.Common.{◌≡◌, ℕ, zero, suc, ◌+◌, ◌-◌, ◌*◌, ◌/◌, ◌%◌, ◌^◌, ◌<◌, ◌≤◌, Bool, true, false, cond, leb, List, [], ◌∷◌, ◌++◌, map, length, sym, refl, ap, ◌∙◌, subst, lt_of_lt_of_le, add-zero, mul-le-mul_right, add-mul, suc-add, zero-add, zero-mul, arith, pow_mono, shr-shr, le-ltb, lt-ltb, le-leb, leb-true}
+use Rattle.std.proofs.Common.{◌≡◌, ℕ, zero, suc, ◌+◌, ◌-◌, ◌*◌, ◌/◌, ◌%◌, ◌^◌, ◌<◌, ◌≤◌, Bool, true, false, cond, leb, List, []}
+use Rattle.std.proofs.Common.{◌∷◌, ◌++◌, map, length, sym, refl, ap, ◌∙◌, subst, lt_of_lt_of_le, add-zero, mul-le-mul_right, add-mul, suc-add, zero-add, zero-mul}
+use Rattle.std.proofs.Common.{arith, pow_mono, shr-shr, le-ltb, lt-ltb, le-leb, leb-true}
 use native.Mathlib.Decide.{dec_lt}
 use borrow.Author.Tests.{lt-leb}
 use Rattle.bits.specs.Tables.{tabulate, at}

@@ -1,6 +1,7 @@
 -- Reads of a packed text, whatever the choice to fold by which it was packed: for a window within the text every question is answered yes, and the symbols stand
 -- at the front of memory afterwards.
-use Rattle.std.proofs.Common.{◌≡◌, ℕ, ◌+◌, ◌-◌, ◌*◌, ◌<◌, ◌≤◌, Bool, true, ◌&&◌, List, map, length, take, drop, ap, mul-le-mul_right, mul-le-mul_left, arith, lt-ltb, le-leb}
+use Rattle.std.proofs.Common.{◌≡◌, ℕ, ◌+◌, ◌-◌, ◌*◌, ◌<◌, ◌≤◌, Bool, true, ◌&&◌, List, map, length, take, drop, ap, mul-le-mul_right}
+use Rattle.std.proofs.Common.{mul-le-mul_left, arith, lt-ltb, le-leb}
 use Rattle.bits.specs.Tables.{at}
 use Rattle.bits.specs.Streams.{bit_at}
 use Rattle.bits.specs.Packing.{pack, file_byte, first_byte, end_byte}

@@ -1,5 +1,6 @@
 -- One law for each turn of this crate's loops: what is written, and what is held.
-use Rattle.std.proofs.Common.{◌≡◌, ℕ, ◌+◌, ◌-◌, ◌*◌, ◌/◌, ◌%◌, ◌^◌, ◌<◌, ◌≤◌, List, [], ◌∷◌, ◌++◌, length, set, sym, refl, ap, ◌∙◌, ap₂, lt_of_lt_of_le, add_assoc, mul_comm, add-mul, mul-le-mul, one-mul, zero-add, arith, pow_mono}
+use Rattle.std.proofs.Common.{◌≡◌, ℕ, ◌+◌, ◌-◌, ◌*◌, ◌/◌, ◌%◌, ◌^◌, ◌<◌, ◌≤◌, List, [], ◌∷◌, ◌++◌, length, set, sym, refl, ap}
+use Rattle.std.proofs.Common.{◌∙◌, ap₂, lt_of_lt_of_le, add_assoc, mul_comm, add-mul, mul-le-mul, one-mul, zero-add, arith, pow_mono}
 use native.Mathlib.Nat.{mod-one}
 use native.Mathlib.Decide.{dec_lt}
 use lib.Pow.{high, low, field, mod-pow-add, mod-mod-pow}

@@ -1,5 +1,7 @@
 -- Windows that are read by whole bytes: blocks of codes over any width, and plain bytes.
-use Rattle.std.proofs.Common.{◌≡◌, ℕ, suc, ◌+◌, ◌-◌, ◌*◌, ◌/◌, ◌%◌, ◌^◌, ◌<◌, ◌≤◌, min, false, List, [], ◌∷◌, map, length, set, replicate, sym, refl, ap, ◌∙◌, ap₂, ⊎_elim, le_of_eq, lt_of_lt_of_le, add-zero, add_assoc, mul-le-mul_right, mod-lt, mod-eq_of_lt, mul_assoc, suc-mul, add-mul, one-mul, div-add-mod', zero-add, zero-mul, div-mul-le_self, mul-div_cancel, arith, length-set, pow_mono}
+use Rattle.std.proofs.Common.{◌≡◌, ℕ, suc, ◌+◌, ◌-◌, ◌*◌, ◌/◌, ◌%◌, ◌^◌, ◌<◌, ◌≤◌, min, false, List, [], ◌∷◌, map, length, set}
+use Rattle.std.proofs.Common.{replicate, sym, refl, ap, ◌∙◌, ap₂, ⊎_elim, le_of_eq, lt_of_lt_of_le, add-zero, add_assoc, mul-le-mul_right, mod-lt, mod-eq_of_lt}
+use Rattle.std.proofs.Common.{mul_assoc, suc-mul, add-mul, one-mul, div-add-mod', zero-add, zero-mul, div-mul-le_self, mul-div_cancel, arith, length-set, pow_mono}
 use native.Mathlib.Nat.{mod_self}
 use native.Mathlib.Decide.{dec_lt}
 use lib.ListN.{length-map}

@@ -1,5 +1,7 @@
 -- The laws of windows that other crates cite: each base by itself, a window in two parts, a window of a packed text.
-use Rattle.std.proofs.Common.{◌≡◌, ℕ, suc, ◌+◌, ◌-◌, ◌*◌, ◌/◌, ◌%◌, ◌^◌, ◌<◌, ◌≤◌, true, leb, List, [], ◌∷◌, ◌++◌, map, length, get_or, take, drop, sym, ap, ◌∙◌, ap₂, add-zero, add_assoc, mul-le-mul_right, mod-eq_of_lt, suc-mul, add-mul, arith, length-drop, length-take-le, get_or-drop, get_or-take, leb-true}
+use Rattle.std.proofs.Common.{◌≡◌, ℕ, suc, ◌+◌, ◌-◌, ◌*◌, ◌/◌, ◌%◌, ◌^◌, ◌<◌, ◌≤◌, true, leb, List, [], ◌∷◌, ◌++◌, map}
+use Rattle.std.proofs.Common.{length, get_or, take, drop, sym, ap, ◌∙◌, ap₂, add-zero, add_assoc, mul-le-mul_right, mod-eq_of_lt, suc-mul, add-mul, arith, length-drop}
+use Rattle.std.proofs.Common.{length-take-le, get_or-drop, get_or-take, leb-true}
 use lib.ListN.{length-map, get_or-map}
 use Rattle.bits.specs.Tables.{tabulate, at}
 use Rattle.bits.specs.Streams.{bit_at, word, cut}

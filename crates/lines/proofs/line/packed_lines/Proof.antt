@@ -109,7 +109,8 @@ sub-if2 c = search rules
 returns-2 : tie.Need-returns-then-out-plain-2
 returns-2 c =
     let b = c in
-    put_short (packed_lines_of (kind b.before.before) (count b.before.before) (packed b.before.before)) (memory b.before.before) (omega (arith, c.if-out-plain-2.true, c.if-out-plain.false, whole_length b.before.before))
+    put_short (packed_lines_of (kind b.before.before) (count b.before.before) (packed b.before.before)) (memory b.before.before)
+    (omega (arith, c.if-out-plain-2.true, c.if-out-plain.false, whole_length b.before.before))
 
 array-share-prefix-letters : tie.Need-slice_bounds-letters-end
 array-share-prefix-letters c =
@@ -119,7 +120,8 @@ array-share-prefix-letters c =
 slice-aggregate-put-line : tie.Need-slice_bounds-put_line-end
 slice-aggregate-put-line c =
     let b = c in
-    sym (length-take-le (name b.before.before.before).len (name b.before.before.before).bytes (name_within (name b.before.before.before) (kind b.before.before.before) (is_name b.before.before.before)))
+    sym (length-take-le (name b.before.before.before).len (name b.before.before.before).bytes
+    (name_within (name b.before.before.before) (kind b.before.before.before) (is_name b.before.before.before)))
 
 put-line-requires : tie.Need-put_line-second-requires
 put-line-requires c κs = omega (arith, room c.before.before, first-length c.before.before.before.before)
@@ -136,7 +138,14 @@ part-put-line-end c = search rules
 put-line-requires-2 : tie.Need-put_line-third-requires
 put-line-requires-2 c κs =
     let p = c in
-    omega (arith, room (fitting p.before.before.before.before), first-length (known p.before.before.before.before), second-length (known p.before.before.before.before), p.put_line-second.ensures.0, p.put_line-second.auto.out)
+    omega (
+      arith,
+      room (fitting p.before.before.before.before),
+      first-length (known p.before.before.before.before),
+      second-length (known p.before.before.before.before),
+      p.put_line-second.ensures.0,
+      p.put_line-second.auto.out,
+    )
 
 -- where the count's line was put: how much memory is left
 module _ (q : tie.After-put_line-third) where
@@ -159,7 +168,13 @@ put-end-requires : tie.Need-put_end-requires
 put-end-requires c κs =
     let h = c in
     let q = h in
-    omega (arith, left_over q.before.before.before.before.before.before.before, hex-length (packed (known (first q.before.before.before.before.before.before.before))), h.put_hex-end.ensures.0, h.put_hex-end.auto.out)
+    omega (
+      arith,
+      left_over q.before.before.before.before.before.before.before,
+      hex-length (packed (known (first q.before.before.before.before.before.before.before))),
+      h.put_hex-end.ensures.0,
+      h.put_hex-end.auto.out,
+    )
 
 same_length : tie.Need-shape_of-out
 same_length c = search rules

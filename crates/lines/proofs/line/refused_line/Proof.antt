@@ -101,7 +101,13 @@ returns-2 c =
     let t = w.put_text-at in
     let e = w in
     let d = e in
-    refused-made (refusal d.before.before.before.before.before.before.before.before.before.before.before.before.before) (number d.before.before.before.before.before.before.before.before.before.before.before.before.before) (digits d.before.before.before.before.before.before.before.before.before.before.before.before.before) (from d.before.before.before.before.before.before.before.before.before.before.before.before.before) (is_number d.before.before.before.before.before.before.before.before.before.before.before.before.before) (is-spelt d.before.before.before.before.before.before.before.before.before.before.before.before.before) (memory d.before.before.before.before.before.before.before.before.before.before.before.before.before) t.new.out l.new.out _
+    refused-made (refusal d.before.before.before.before.before.before.before.before.before.before.before.before.before)
+    (number d.before.before.before.before.before.before.before.before.before.before.before.before.before)
+    (digits d.before.before.before.before.before.before.before.before.before.before.before.before.before)
+    (from d.before.before.before.before.before.before.before.before.before.before.before.before.before)
+    (is_number d.before.before.before.before.before.before.before.before.before.before.before.before.before)
+    (is-spelt d.before.before.before.before.before.before.before.before.before.before.before.before.before)
+    (memory d.before.before.before.before.before.before.before.before.before.before.before.before.before) t.new.out l.new.out _
     t.result l.result e.if-out-from.false t.ensures.0 t.ensures.1 (part d.before.before.before.before.before.before.before.before.before.before.before.before.before) l.ensures.0 l.ensures.1
 
 pub refused_line_spec : {M : Type 1} → statement M

@@ -99,7 +99,11 @@ cast-sum-2 c = search rules
 add-sum-2 : tie.Need-overflow_add-sum-in-loop-i-2 invariant-loop decreases-loop invariant-loop2 decreases-loop2
 add-sum-2 c =
     let h = c in
-    omega (arith, left_few (coding (first h.before.before.before)) (given (first h.before.before.before)) (h.loop-i-2.sum + c.stranger.result) (h.loop-i-2.i + 1) (one c), (start (first h.before.before.before)).well_formed)
+    omega (
+      arith,
+      left_few (coding (first h.before.before.before)) (given (first h.before.before.before)) (h.loop-i-2.sum + c.stranger.result) (h.loop-i-2.i + 1) (one c),
+      (start (first h.before.before.before)).well_formed,
+    )
 
 add-i-2 : tie.Need-overflow_add-i-in-loop-i-2 invariant-loop decreases-loop invariant-loop2 decreases-loop2
 add-i-2 c = search rules

@@ -52,7 +52,8 @@ loop-again c =
     let i : ℕ = h.loop-i.i in
     let step : ℕ = h.args.step in
     let within : i + step ≤ length (given h.before.before.before) = omega (arith, m.loop-i-test.true, h.loop-i.invariant.1) in
-    let more = passed_more (coding h.before.before.before) (given h.before.before.before) i step h.loop-i.invariant.2 within (m.are_members.ensures (not-false m.are_members.result c.if-not-are_members.false-raw)) in
+    let more = passed_more (coding h.before.before.before) (given h.before.before.before) i step h.loop-i.invariant.2 within
+    (m.are_members.ensures (not-false m.are_members.result c.if-not-are_members.false-raw)) in
     (refl, omega (arith, m.loop-i-test.true), more)
 
 returns-2 : tie.Need-returns invariant-loop decreases-loop

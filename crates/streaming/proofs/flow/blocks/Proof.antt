@@ -117,7 +117,8 @@ loop-again c =
     let a = s.args in (
       omega (arith, i.loop-k-test.true),
       p.put_block.auto.out ∙ l.invariant.1,
-      one_read a.table.now a.b a.source.now a.start.have a.start.taken a.start.acc a.out.now l.k l.invariant.2 (bytes i.before.before.before.before.before.before) (space i.before.before.before.before.before.before)
+      one_read a.table.now a.b a.source.now a.start.have a.start.taken a.start.acc a.out.now l.k l.invariant.2 (bytes i.before.before.before.before.before.before)
+          (space i.before.before.before.before.before.before)
           g.gather-bits.ensures p.put_block.ensures (c.low-acc.ensures ∙ low_is (omega (arith, s.requires.1.few)) _),
     )
 

@@ -101,9 +101,12 @@ returns c =
     let source = text k.before.before.before.before.before.before in
     let r = copied none.before.before.before.before.before in
     let all =
-    carry_count s source (start k.before.before.before.before.before.before).requires.0.0 (from k.before.before.before.before.before.before) k.least-limit.result (length (memory k.before.before.before.before.before.before)) (start k.before.before.before.before.before.before).requires.1.0 (omega arith) r (limit k.before.before.before.before.before.before) (count k.before.before.before.before.before.before) in (
+    carry_count s source (start k.before.before.before.before.before.before).requires.0.0 (from k.before.before.before.before.before.before) k.least-limit.result
+    (length (memory k.before.before.before.before.before.before)) (start k.before.before.before.before.before.before).requires.1.0 (omega arith) r
+    (limit k.before.before.before.before.before.before) (count k.before.before.before.before.before.before) in (
       level_answer r (length (memory k.before.before.before.before.before.before)) (omega arith) all c.answered.ensures call.copy.auto.out,
-      copy_memory s source (start k.before.before.before.before.before.before).requires.0.0 (from k.before.before.before.before.before.before) (bare none.before.before.before.before.before) (λ i. (k.shared_slice_known-1.given i).fits) (start k.before.before.before.before.before.before).requires.0.1
+      copy_memory s source (start k.before.before.before.before.before.before).requires.0.0 (from k.before.before.before.before.before.before)
+          (bare none.before.before.before.before.before) (λ i. (k.shared_slice_known-1.given i).fits) (start k.before.before.before.before.before.before).requires.0.1
           k.least-count.result _ (memory k.before.before.before.before.before.before) call.copy.ensures all,
     )
 

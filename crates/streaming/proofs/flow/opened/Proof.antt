@@ -46,7 +46,8 @@ returns-2 c =
       few = omega (arith, test.if-skip-eq0.false);
       none = refl;
       level =
-          open_skip s start.args.source.now start.requires.0 test.if-skip-eq0.false (due_source s start.args.source.now start.requires.0 test.if-skip-eq0.false start.requires.1) (c.shared_slice_known-2-1.given 0).fits
+          open_skip s start.args.source.now start.requires.0 test.if-skip-eq0.false
+          (due_source s start.args.source.now start.requires.0 test.if-skip-eq0.false start.requires.1) (c.shared_slice_known-2-1.given 0).fits
           (c.low.ensures ∙ low_is (omega arith) _);
     }
 

@@ -85,7 +85,8 @@ sub-if3 c = let p = c in omega (arith, c.if-start-b.false, range-order p.bits_pe
 returns-4 : tie.Need-returns-then-bytes-end
 returns-4 c =
     let p = c in
-    lent_not (window p.before.before) (start p.before.before).args.bytes.now (start p.before.before).args.room (covered_late _ _ _ _ _ (begins c.before) (rw (← width p.before.before) c.if-bytes-end.true))
+    lent_not (window p.before.before) (start p.before.before).args.bytes.now (start p.before.before).args.room
+    (covered_late _ _ _ _ _ (begins c.before) (rw (← width p.before.before) c.if-bytes-end.true))
 
 returns-5 : tie.Need-returns-then-room-count
 returns-5 c = let p = c in lent_short (window p.before.before.before) (start p.before.before.before).args.bytes.now (start p.before.before.before).args.room (all-lent c.before) c.if-room-count.true

@@ -1,4 +1,5 @@
-use Rattle.std.proofs.Common.{◌≡◌, ℕ, ◌+◌, ◌-◌, ◌*◌, ◌/◌, ◌%◌, ◌^◌, ◌≤◌, map, length, sym, refl, ap, ◌∙◌, subst, zero-le, mul-le-mul_right, add-mul, one-mul, div-mul-le_self, arith, rules}
+use Rattle.std.proofs.Common.{◌≡◌, ℕ, ◌+◌, ◌-◌, ◌*◌, ◌/◌, ◌%◌, ◌^◌, ◌≤◌, map, length, sym, refl, ap, ◌∙◌, subst, zero-le}
+use Rattle.std.proofs.Common.{mul-le-mul_right, add-mul, one-mul, div-mul-le_self, arith, rules}
 use Rattle.bits.specs.Tables.{tabulate, at}
 use Rattle.bits.specs.Streams.{bit_at, word, fields}
 use Rattle.bits.specs.Memory.{put_at}

@@ -50,8 +50,13 @@ sub-singles c = ends c.before.before.before
 singles-requires : tie.Need-singles-requires
 singles-requires c κs =
     let b = c in
-    let s = start (laid b.before.before.before.before) in
-    (decodes (laid b.before.before.before.before), record { near = omega (arith, ends b.before.before.before.before, s.requires.near); space = omega (arith, ends b.before.before.before.before, s.requires.space, b.blocks-done.auto.out) })
+    let s = start (laid b.before.before.before.before) in (
+      decodes (laid b.before.before.before.before),
+      record {
+        near = omega (arith, ends b.before.before.before.before, s.requires.near);
+        space = omega (arith, ends b.before.before.before.before, s.requires.space, b.blocks-done.auto.out);
+      },
+    )
 
 same_length : tie.Need-shape_of-out
 same_length c =

@@ -1,4 +1,5 @@
-use Rattle.std.proofs.Common.{◌≡◌, ℕ, ◌-◌, ◌*◌, ◌/◌, ◌%◌, ◌^◌, ◌<◌, ◌≤◌, List, length, sym, refl, ap, ◌∙◌, zero-le, mul-le-mul_right, arith, length-set, rules}
+use Rattle.std.proofs.Common.{◌≡◌, ℕ, ◌-◌, ◌*◌, ◌/◌, ◌%◌, ◌^◌, ◌<◌, ◌≤◌, List, length, sym, refl, ap, ◌∙◌, zero-le, mul-le-mul_right}
+use Rattle.std.proofs.Common.{arith, length-set, rules}
 use Rattle.bits.specs.Tables.{at}
 use Rattle.bits.specs.Memory.{put_at}
 use Rattle.bits.proofs.Blocks.{entry_at, entries_at}

@@ -108,7 +108,8 @@ loop-again c =
     let on : here i.before.before.before + 8 ≡ a.start + (l.n + 1) * 8 = omega arith in
     let place : a.start * 5 / 8 - a.offset + l.n * 5 ≡ byte i.before.before.before - a.offset = omega (arith, (of-turn i.before.before.before).requires.begins) in
     let e = subst (λ (j : ℕ). m.number.result ≡ word (bit_at 8 (at a.bytes.now)) (j * 8) 64) place m.number.ensures in
-    let looked = eleven a.bytes.now a.offset m.number.result (byte i.before.before.before) (here i.before.before.before) 11 8 (9 - skip) (omega (arith, (of-turn i.before.before.before).requires.begins)) (omega arith) (omega arith) e
+    let looked = eleven a.bytes.now a.offset m.number.result (byte i.before.before.before) (here i.before.before.before) 11 8 (9 - skip)
+    (omega (arith, (of-turn i.before.before.before).requires.begins)) (omega arith) (omega arith) e
     2 (7 - skip) (omega arith) (lit≤ tt) (k.lacks.ensures c.if-lacks.false) in (
       omega (arith, i.loop-n-test.true),
       subst (λ (j : ℕ). Passes (coding Protein) a.bytes.now a.offset a.start j a.end) on

@@ -90,7 +90,8 @@ returns-4 c =
     let whole : a.start + n ≡ a.end = omega (arith, (start e.before.before.before).requires.near.order) in
     subst (λ (i : ℕ). Passes (coding Protein) a.bytes.now a.offset a.start i a.end) whole
     (passes_more (coding Protein) a.bytes.now a.offset n (none (start e.before.before.before)) (omega (arith, whole))
-    (eleven a.bytes.now a.offset m.number.result (first e.before.before.before) a.start n (last e.before.before.before - first e.before.before.before) (spare e.before.before.before) (start e.before.before.before).requires.begins (omega arith) (fill e.before.before.before)
+    (eleven a.bytes.now a.offset m.number.result (first e.before.before.before) a.start n (last e.before.before.before - first e.before.before.before)
+    (spare e.before.before.before) (start e.before.before.before).requires.begins (omega arith) (fill e.before.before.before)
     m.number.ensures (spare e.before.before.before) 0 (add-zero (spare e.before.before.before)) (omega (arith, e.if-end-start-gt-MANY.false)) (k.lacks.ensures c.if-lacks.false)))
 
 pub pass_rest_spec : {M : Type 1} → statement M

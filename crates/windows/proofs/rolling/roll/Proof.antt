@@ -53,7 +53,9 @@ base c A w t =
     let held = r.refill-held.result in
     let bits : held.have - width p.before.before.before.before.before < 64 = omega (arith, r.refill-held.ensures.1) in
     decoded A _ _ (width p.before.before.before.before.before) _ c.field-code.result _ w (five p.before.before.before.before.before) t
-    (c.field-code.ensures ∙ field_is bits {b = width p.before.before.before.before.before} (omega (arith, five p.before.before.before.before.before)) held.acc ∙ take-code (byte p.before.before.before.before.before) (small p.before.before.before.before.before) (width p.before.before.before.before.before) _ held (full r.before.before) r.refill-held.ensures.0)
+    (c.field-code.ensures ∙ field_is bits {b = width p.before.before.before.before.before} (omega (arith, five p.before.before.before.before.before)) held.acc
+    ∙ take-code (byte p.before.before.before.before.before) (small p.before.before.before.before.before) (width p.before.before.before.before.before) _ held
+    (full r.before.before) r.refill-held.ensures.0)
 
 bits-per-symbol-requires : tie.Need-bits_per_symbol-b-requires invariant-loop decreases-loop
 bits-per-symbol-requires c κs = search rules
@@ -78,7 +80,8 @@ refill-requires : tie.Need-refill-held-requires invariant-loop decreases-loop
 refill-requires c κs =
     let l = c.loop-n in
     let p = c in
-    let near : ((start p.before.before).args.start + l.n) * width p.before.before ≤ 2 ^ 63 = bit_fits (omega (arith, (start p.before.before).requires.1.near)) (omega (arith, five p.before.before)) in (
+    let near : ((start p.before.before).args.start + l.n) * width p.before.before ≤ 2 ^ 63 =
+    bit_fits (omega (arith, (start p.before.before).requires.1.near)) (omega (arith, five p.before.before)) in (
       l.invariant.1,
       omega (arith, near, l.invariant.2.up_to, l.invariant.1),
       omega (arith, five p.before.before),
@@ -123,9 +126,12 @@ loop-again c =
     let a = (start p.before.before.before.before.before.before.before).args in (
       omega (arith, more),
       omega (arith, r.refill-held.ensures.1),
-      rw (← one_on a.start l.n (width p.before.before.before.before.before.before.before)) (take_rest (byte p.before.before.before.before.before.before.before) (small p.before.before.before.before.before.before.before) (width p.before.before.before.before.before.before.before) _ r.refill-held.result (full r.before.before.before.before) r.refill-held.ensures.0 _ refl refl refl),
+      rw (← one_on a.start l.n (width p.before.before.before.before.before.before.before))
+          (take_rest (byte p.before.before.before.before.before.before.before) (small p.before.before.before.before.before.before.before)
+          (width p.before.before.before.before.before.before.before) _ r.refill-held.result (full r.before.before.before.before) r.refill-held.ensures.0 _ refl refl refl),
       simp length-set l.invariant.3,
-      λ A w t. one_written A a.bytes.now a.offset a.from a.start l.n a.out.now l.out (l.invariant.4 A w t) _ (omega (arith, more, (start p.before.before.before.before.before.before.before).requires.1.space))
+      λ A w t. one_written A a.bytes.now a.offset a.from a.start l.n a.out.now l.out (l.invariant.4 A w t) _
+          (omega (arith, more, (start p.before.before.before.before.before.before.before).requires.1.space))
           (base c.before.before A w t).1,
     )
 

@@ -65,15 +65,21 @@ returns-3 c =
     let begun = done in
     let first = begun in
     let a = (call first.before.before.before.before.before.before.before.before.before).args in
-    moves a.self a.source.now a.out.now (sound first.before.before.before.before.before.before.before.before.before) (begins begun.before.before.before.before.before.before.before) done.carry.ensures.0 done.carry.ensures.1
+    moves a.self a.source.now a.out.now (sound first.before.before.before.before.before.before.before.before.before)
+    (begins begun.before.before.before.before.before.before.before) done.carry.ensures.0 done.carry.ensures.1
 
 pump-requires : tie.Need-pump-requires
 pump-requires c κs =
     let width = c in
     let opened = width in
     let first = opened in
-    let s = (call first.before.before.before.before.before.before).args.self in
-    ((packed_else s.alphabet (λ e. c.if-bits_per_symbol-eq8.false (width.bits_per_symbol.ensures ∙ e)), (sound_facts s (sound first.before.before.before.before.before.before)).few), opened.opened-start.ensures)
+    let s = (call first.before.before.before.before.before.before).args.self in (
+      (
+        packed_else s.alphabet (λ e. c.if-bits_per_symbol-eq8.false (width.bits_per_symbol.ensures ∙ e)),
+        (sound_facts s (sound first.before.before.before.before.before.before)).few,
+      ),
+      opened.opened-start.ensures,
+    )
 
 same-length-2 : tie.Need-shape_of-out
 same-length-2 c = c.pump.auto.out
@@ -85,7 +91,8 @@ returns-4 c =
     let begun = done in
     let first = begun in
     let a = (call first.before.before.before.before.before.before.before.before.before).args in
-    moves a.self a.source.now a.out.now (sound first.before.before.before.before.before.before.before.before.before) (begins begun.before.before.before.before.before.before.before) done.pump.ensures.0 done.pump.ensures.1
+    moves a.self a.source.now a.out.now (sound first.before.before.before.before.before.before.before.before.before)
+    (begins begun.before.before.before.before.before.before.before) done.pump.ensures.0 done.pump.ensures.1
 
 pub read_spec : {M : Type 1} → statement M
 read_spec =
