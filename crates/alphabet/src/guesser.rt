@@ -8,7 +8,7 @@ ghost use Rattle.alphabet.specs.Answers.{guesser_updated_reply, guesser_update_t
 use crate::bases::pass_bases;
 use crate::kind::AlphabetType;
 use crate::mask::{ALPHABET_ORDER, masks_by};
-use crate::refusal::Refusal;
+use crate::refusal::{Refusal, Refused};
 use bits::place;
 
 // The mask while every alphabet is possible.
@@ -25,20 +25,6 @@ const GUESS_CHUNK: usize = 4096;
 pub struct AlphabetGuesser {
     pub acc: u8,
     pub fold: bool,
-}
-
-// What `update` answers.
-#[derive(Clone, Copy)]
-pub enum GuesserUpdated {
-    Next(AlphabetGuesser),
-    Refused(Refusal, AlphabetGuesser),
-}
-
-// What `guess` answers.
-#[derive(Clone, Copy)]
-pub enum Guessed {
-    Kind(AlphabetType),
-    Refused(Refusal, AlphabetGuesser),
 }
 
 impl AlphabetGuesser {
@@ -60,35 +46,34 @@ impl AlphabetGuesser {
     }
 
     // The state after a text; an unsound state is refused by 1 and comes back as it was.
-    pub fn update(self, sequence: &[u8]) -> GuesserUpdated
+    pub fn update(self, sequence: &[u8]) -> Result<AlphabetGuesser, Refused<AlphabetGuesser>>
         ensures value { result ≡ guesser_update_at self sequence.now }
         ensures told { guesser_updated_reply result ≡ guesser_update_told self sequence.now }
     {
         if !self.is_sound() {
-            return GuesserUpdated::Refused(Refusal::Unsound, self);
+            return Err(Refusal::Unsound.keeping(self));
         }
         let acc = self.acc;
         if acc == ASCII_BIT {
-            return GuesserUpdated::Next(self);
+            return Ok(self);
         }
         let fold = self.fold;
-        GuesserUpdated::Next(AlphabetGuesser {
+        Ok(AlphabetGuesser {
             acc: scan(acc, fold, sequence),
             fold,
         })
     }
 
     // The alphabet whose place in the order is the count of the mask's trailing zero bits; an unsound state is refused by 1.
-    pub fn guess(self) -> Guessed
+    pub fn guess(self) -> Result<AlphabetType, Refused<AlphabetGuesser>>
         ensures value { result ≡ guess_at self }
         ensures told { guessed_reply result ≡ guess_told self }
     {
         if !self.is_sound() {
-            return Guessed::Refused(Refusal::Unsound, self);
+            return Err(Refusal::Unsound.keeping(self));
         }
         let i = u8::trailing_zeros(self.acc) as usize;
-        let kind = ALPHABET_ORDER[i];
-        Guessed::Kind(kind)
+        Ok(ALPHABET_ORDER[i])
     }
 }
 
@@ -197,8 +182,5 @@ pub fn guess_alphabet(fold: bool, sequence: &[u8]) -> AlphabetType
     ensures { result ≡ guess_of fold sequence.now }
 {
     let acc = scan(ALL_ALPHABETS, fold, sequence);
-    let Guessed::Kind(kind) = AlphabetGuesser { acc, fold }.guess() else {
-        return AlphabetType::Unknown;
-    };
-    kind
+    AlphabetGuesser { acc, fold }.guess().unwrap()
 }
