@@ -1,12 +1,12 @@
 -- One law for each turn of this crate's loops.
-use Rattle.std.proofs.Common.{◌≡◌, ℕ, suc, ◌+◌, ◌-◌, ◌<◌, ◌≤◌, Bool, true, false, cond, ◌&&◌, ◌||◌, eqb, ◌⊎◌, List, [], ◌∷◌, ◌++◌, map}
+use Rattle.std.proofs.Common.{◌≡◌, ℕ, ◌+◌, ◌-◌, ◌<◌, ◌≤◌, Bool, true, false, cond, ◌&&◌, ◌||◌, eqb, ◌⊎◌, List, [], ◌∷◌, ◌++◌, map}
 use Rattle.std.specs.List.{list_any}
-use Rattle.std.proofs.Common.{length, get_or, drop, set, sym, refl, ap, ◌∙◌, subst, inl, inr, add-one, arith, length-set, drop_of_length-le, get_or-drop, drop-cons}
-use Rattle.std.proofs.Common.{get_or-set_same, get_or-set_other, lt-ltb, eq-eqb, ne_eqb, replicate}
+use Rattle.std.proofs.Common.{length, drop, set, sym, refl, ap, ◌∙◌, subst, inl, inr, add-one, arith, length-set, drop_of_length-le, get_or-drop, drop-cons}
+use Rattle.std.proofs.Common.{get_or-set_same, get_or-set_other, get_or-append-add, take, take_all, length-drop, lt-ltb, ne_eqb, replicate}
 use native.Mathlib.Decide.{dec_lt}
 use borrow.Author.Tests.{eqb-true, eqb-false}
 use lib.Bits.{bit_and}
-use lib.Seq.{drop-length}
+use Rattle.std.proofs.lemmas.List.{take-append-drop, drop-drop}
 use Rattle.bits.specs.Tables.{tabulate, at, Bytes}
 use Rattle.bits.proofs.Tabulated.{length-tabulate, get_d_tabulate, is_tabulate, tabulate_ext, front_more, replicate-tabulate}
 use Rattle.bits.proofs.Computed.{and_true, and_false}
@@ -15,8 +15,8 @@ use Rattle.alphabet.specs.declared.kind.AlphabetType.TheVariants.{Ascii, Unknown
 use Rattle.alphabet.specs.Symbols.{symbol_of, code_of, among, found, Coding, listed, plain, coding, canon, folded, upper, folded_entries, folds, coding_by}
 use Rattle.alphabet.specs.Guess.{mask_of, masked}
 use Rattle.alphabet.proofs.Folding.{upper_below, upper_above, upper_between, canon_lt}
-use Rattle.alphabet.proofs.Laws.{at_folded, length-folded}
-use Rattle.alphabet.proofs.Masks.{masked_ascii}
+use Rattle.alphabet.proofs.Laws.{at_folded, length-folded, folded-drop, folded-append, folded_bytes}
+use Rattle.alphabet.proofs.Masks.{masked_ascii, masked-append, masked_le}
 use Rattle.alphabet.proofs.Pairs.{found_or}
 
 -- ---- a table filled from a list, read from its end: place j is for the key j
@@ -213,3 +213,47 @@ scan_done text m i h e = sym (ap (masked m) (drop_of_length-le text h)) ∙ e
 pub scan_break : (text : List ℕ) (m i : ℕ) {r : ℕ} → Bytes text → m ≡ 16 → masked m (drop i text) ≡ r → m ≡ r
 scan_break text m i bytes e q =
     e ∙ sym (masked_ascii (drop i text) (λ j. rw (get_or-drop i text j 0) (bytes (i + j)))) ∙ ap (λ (n : ℕ). masked n (drop i text)) (sym e) ∙ q
+
+-- n bytes that leave a mask as it is are passed
+pub scan_past : (fold : Bool) (text : List ℕ) (m i n : ℕ) {r : ℕ} → masked m (folded fold (take n (drop i text))) ≡ m → masked m (drop i (folded fold text)) ≡ r
+    → masked m (drop (i + n) (folded fold text)) ≡ r
+scan_past fold text m i n same e =
+    let part : List ℕ = drop i text in
+    let both : drop i (folded fold text) ≡ folded fold (take n part) ++ folded fold (drop n part) =
+    sym (folded-drop fold i text) ∙ ap (folded fold) (sym (take-append-drop n part)) ∙ folded-append fold (take n part) (drop n part) in
+    let rest : folded fold (drop n part) ≡ drop (i + n) (folded fold text) = ap (folded fold) (drop-drop n i text) ∙ folded-drop fold (i + n) text in
+    ap (masked m) (sym rest)
+    ∙ sym (ap (masked m) both ∙ masked-append m (folded fold (take n part)) (folded fold (drop n part)) ∙ ap (λ (k : ℕ). masked k (folded fold (drop n part))) same)
+    ∙ e
+
+-- a text scanned by chunks: what is left gives, with the mask, the whole, and is of bytes
+pub record Chunked (fold : Bool) (whole acc : ℕ) (rest : List ℕ) : Type 0 where
+  pub sound : acc ≤ 31
+  pub bytes : Bytes rest
+  pub gives : masked acc (folded fold rest) ≡ whole
+
+-- a chunk's mask is that of the bytes behind those that leave the mask as it is
+pub chunk_narrowed : (fold : Bool) (chunk : List ℕ) (acc start narrowed : ℕ) → masked acc (drop start (folded fold chunk)) ≡ masked acc (folded fold chunk)
+    → narrowed ≡ masked acc (folded fold (take (length chunk - start) (drop start chunk))) → narrowed ≡ masked acc (folded fold chunk)
+chunk_narrowed fold chunk acc start narrowed alike e =
+    let all : take (length chunk - start) (drop start chunk) ≡ drop start chunk = take_all (length chunk - start) (drop start chunk) (omega (arith, length-drop start chunk)) in
+    e ∙ ap (λ (l : List ℕ). masked acc (folded fold l)) all ∙ ap (masked acc) (folded-drop fold start chunk) ∙ alike
+
+-- it goes on behind a chunk
+pub chunk_more : (fold : Bool) (chunk rest : List ℕ) {acc whole : ℕ} (narrowed : ℕ) → narrowed ≡ masked acc (folded fold chunk) → Chunked fold whole acc (chunk ++ rest)
+    → Chunked fold whole narrowed rest
+chunk_more fold chunk rest {acc} narrowed e c =
+    record {
+      sound = omega (arith, e, masked_le acc (folded fold chunk), c.sound);
+      bytes = λ i. subst (λ (v : ℕ). v < 256) (get_or-append-add chunk rest i 0) (c.bytes (length chunk + i));
+      gives = ap (λ (m : ℕ). masked m (folded fold rest)) e
+          ∙ sym (ap (masked acc) (folded-append fold chunk rest) ∙ masked-append acc (folded fold chunk) (folded fold rest))
+          ∙ c.gives;
+    }
+
+-- it is done where nothing is left, or where only Ascii remains
+pub chunk_none : (fold : Bool) {whole acc : ℕ} (rest : List ℕ) → length rest ≡ 0 → Chunked fold whole acc rest → acc ≡ whole
+chunk_none fold {whole} {acc} rest none c = scan_done (folded fold rest) acc 0 (omega (arith, none, length-folded fold rest)) c.gives
+
+pub chunk_ascii : (fold : Bool) {whole acc : ℕ} (rest : List ℕ) → acc ≡ 16 → Chunked fold whole acc rest → acc ≡ whole
+chunk_ascii fold {whole} {acc} rest e c = scan_break (folded fold rest) acc 0 (folded_bytes fold rest c.bytes) e c.gives

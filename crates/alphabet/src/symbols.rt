@@ -80,8 +80,7 @@ const PROTEIN_SYMBOLS: [[u8; 2]; 29] = [
 
 // Gives each symbol's place in a table by the bytes' values the symbol's code. The list is read from its end, so that of two pairs with one symbol the first would
 // count.
-fn lay(symbols: &[[u8; 2]], table: &mut [u8])
-    requires { length table.old ≡ 256 }
+fn lay(symbols: &[[u8; 2]], table: &mut [u8; 256])
     ensures { table.new ≡ tabulate 256 (λ v. found symbol_of code_of (at table.old v) symbols.now v) }
 {
     for &[symbol, code] in symbols.iter().rev() {
@@ -90,8 +89,7 @@ fn lay(symbols: &[[u8; 2]], table: &mut [u8])
 }
 
 // The same, and then each lowercase letter's place gets the entry of its uppercase letter, where that is chosen.
-fn lay_folded(symbols: &[[u8; 2]], fold: bool, table: &mut [u8])
-    requires { length table.old ≡ 256 }
+fn lay_folded(symbols: &[[u8; 2]], fold: bool, table: &mut [u8; 256])
     ensures { table.new ≡ folded_entries fold (tabulate 256 (λ v. found symbol_of code_of (at table.old v) symbols.now v)) }
 {
     lay(symbols, table);

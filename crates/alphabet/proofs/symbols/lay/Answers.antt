@@ -9,7 +9,7 @@ loop-symbol-init c =
     let t = c.args.table.now in
     let all : c.into_iter-symbol-iterator.result.iter.rest.now ≡ c.args.symbols.now = search rules in
     subst (λ (pairs : List (List ℕ)). Lays symbol_of code_of 256 (λ j. found symbol_of code_of (at t j) c.args.symbols.now j) pairs t) (sym all)
-    (to_lay symbol_of code_of 256 c.args.symbols.now t c.requires)
+    (to_lay symbol_of code_of 256 c.args.symbols.now t c.told-table)
 
 pub loop-symbol-preserved : goal.loop-symbol-preserved
 loop-symbol-preserved c =
