@@ -52,15 +52,12 @@ impl AlphabetGuesser {
         if !self.is_sound() {
             return Err(Refusal::Unsound.keeping(self));
         }
-        let acc = self.acc;
-        if acc == ASCII_BIT {
+        if self.acc == ASCII_BIT {
             return Ok(self);
         }
         let fold = self.fold;
-        Ok(AlphabetGuesser {
-            acc: scan(acc, fold, sequence),
-            fold,
-        })
+        let acc = scan(self.acc, fold, sequence);
+        Ok(AlphabetGuesser { acc, fold })
     }
 
     // The alphabet whose place in the order is the count of the mask's trailing zero bits; an unsound state is refused by 1.
@@ -71,7 +68,7 @@ impl AlphabetGuesser {
         if !self.is_sound() {
             return Err(Refusal::Unsound.keeping(self));
         }
-        let i = u8::trailing_zeros(self.acc) as usize;
+        let i = self.acc.trailing_zeros() as usize;
         Ok(ALPHABET_ORDER[i])
     }
 }
