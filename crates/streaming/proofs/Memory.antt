@@ -1,5 +1,5 @@
 -- A call's answer and its memory, by the questions that it asks.
-use mathlib.Core.Path.{◌≡◌, refl, sym, ap, ◌∙◌}
+use mathlib.Core.Path.{◌≡◌, refl, sym, ap, ap₂, ◌∙◌}
 use mathlib.Core.Bool.{true, false, ◌||◌}
 use mathlib.Core.List.{List, [], ◌++◌, map}
 use Prim.Native.Nat.{ℕ, ◌+◌, ◌*◌}
@@ -14,7 +14,7 @@ use Rattle.streaming.specs.declared.decoder.StreamingDecoder.{StreamingDecoder}
 use Rattle.streaming.specs.declared.decoder.Status.TheVariants.{Hungry}
 use Rattle.streaming.specs.declared.decoder.Streamed.{Streamed}
 use Rattle.streaming.specs.Stream.{reads_by, sound_stream, source_bits, used, bases_of, moved_by, stream_at, stream_writes, stream_memory}
-use Rattle.streaming.specs.Flow.{base_at, filled}
+use Rattle.streaming.specs.Flow.{base_at, filled, all_moved, all_filled}
 
 -- an answer and the memory with it
 unfoldable pub Met : StreamingDecoder → List ℕ → List ℕ → Streamed → List ℕ → Type 0
@@ -42,3 +42,9 @@ module _ (s : StreamingDecoder) (source memory : List ℕ) where
       let n : ℕ = bases_of s source (length memory) in
       rw (e, f)
       (q, m ∙ ap (λ (k : ℕ). tabulate n (base_at s source) ++ drop k memory) (sym (length-tabulate n (base_at s source))) ∙ ap (λ (l : List ℕ). front l memory) (sym (bases_are n)))
+
+  -- the same, where the loops know state and source by other names
+  pub moves_as : sound_stream s ≡ true → eqb s.skip 0 || ltb 0 (length source) ≡ true → {s' : StreamingDecoder} {source' : List ℕ} → s' ≡ s → source' ≡ source
+      → {r : Streamed} {after : List ℕ} → r ≡ all_moved s' source' (length memory) → after ≡ all_filled s' source' memory → Met s source memory r after
+  moves_as e f p o q m =
+      moves e f (q ∙ ap₂ (λ (x : StreamingDecoder) (y : List ℕ). all_moved x y (length memory)) p o) (m ∙ ap₂ (λ (x : StreamingDecoder) (y : List ℕ). all_filled x y memory) p o)

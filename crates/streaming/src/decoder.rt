@@ -2,7 +2,8 @@
 ghost use Rattle.std.specs.Prelude.{◌||◌, ◌≡◌, eqb, ltb, length};
 ghost use Rattle.streaming.specs.Stream.{sound_stream, start_stream_at, stream_at, stream_memory, end_at};
 
-use crate::flow::{carry, opened, pump};
+use crate::flow::{carry, pump};
+use crate::opening::Opening;
 use alphabet::{AlphabetType, Named, Refusal, kind_of_number};
 
 // `skip` bits are to be passed over first (0: done, or never due); `budget` bases are to come; `bits` bits, of value `pending`, are taken and not used.
@@ -107,12 +108,12 @@ impl StreamingDecoder {
                 next: self,
             };
         }
-        let start = opened(self, source);
+        let start = Opening::of(self, source);
         let kind = self.alphabet;
         if kind.bits_per_symbol() == 8 {
-            return carry(self, source, start, out);
+            return carry(start, out);
         }
-        pump(self, source, start, out)
+        pump(start, out)
     }
 
     // The end of the stream: with the skip due or bases to come it is refused by 7, with the bases outstanding. A state that is

@@ -3,5 +3,7 @@
 
 mod decoder;
 mod flow;
+mod opening;
+mod symbols;
 
 pub use decoder::{Ended, Status, StreamStarted, Streamed, StreamingDecoder};
