@@ -9,11 +9,17 @@ use lib.ListN.{length, set}
 use lib.Seq.{get_or-set_same, get_or-set_other}
 use lib.Pow.{shr-shr, field, mod-mod-pow}
 use Rattle.alphabet.specs.declared.kind.AlphabetType.{AlphabetType}
+use Rattle.alphabet.specs.declared.symbols.DecodingTable.{DecodingTable}
 use Rattle.bits.specs.Tables.{at}
 use Rattle.bits.proofs.Shifts.{field_is, code_lt, low_lt}
 use Rattle.bits.proofs.Tabulated.{is_tabulate}
 use Rattle.bits.proofs.Blocks.{entry_at, entries_at}
 use Rattle.streaming.specs.Symbols.{decoding, block_of, Paired}
+
+-- what a decoding table holds
+pub entries : (t : DecodingTable) → t.symbols ≡ decoding t.kind
+unfolding decoding
+entries t = t.laid
 
 -- a field of a number, as an index into a table of 32 entries
 pub code_is : {r p b : ℕ} (x : ℕ) → p < 64 → b ≤ 5 → r ≡ x / 2 ^ (p % 64) % 2 ^ (b % 64) → (r ≡ x / 2 ^ p % 2 ^ b) × (r < 32)

@@ -30,8 +30,12 @@ pub record Stands (s : StreamingDecoder) (source : List ℕ) (room : ℕ) (f : F
 -- the answer where the loops of a call end, with n bases written and output memory for `room`
 unfoldable pub answered_by : StreamingDecoder → ℕ → ℕ → ℕ → ℕ → ℕ → Streamed
 answered_by s acc have taken n room =
-    Streamed.Moved taken n (status_for (s.budget - n) (room - n))
-    (record { alphabet = s.alphabet; skip = 0; budget = s.budget - n; bits = have; pending = acc })
+    record {
+      taken = taken;
+      written = n;
+      status = status_for (s.budget - n) (room - n);
+      next = record { alphabet = s.alphabet; skip = 0; budget = s.budget - n; bits = have; pending = acc };
+    }
 
 -- a call's answer and memory once all of its bases are written
 abbrev pub all_moved : StreamingDecoder → List ℕ → ℕ → Streamed

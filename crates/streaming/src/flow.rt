@@ -3,11 +3,12 @@ ghost use Rattle.std.specs.Prelude.{◌≡◌, ℕ, ◌+◌, ◌*◌, ◌^◌, �
 ghost use Rattle.bits.specs.Tables.{at};
 ghost use Rattle.bits.specs.Streams.{bit_at, word};
 ghost use Rattle.bits.specs.Memory.{front};
-ghost use Rattle.streaming.specs.Stream.{reads_by, status_for};
+ghost use Rattle.streaming.specs.Stream.{reads_by};
 ghost use Rattle.streaming.specs.Flow.{Stands, count_in_blocks, answered_by, filled, all_moved, all_filled};
 
-use crate::decoder::{Status, Streamed, StreamingDecoder};
+use crate::decoder::{Streamed, StreamingDecoder};
 use crate::opening::Opening;
+use crate::status::Status;
 use crate::symbols::{Singles, Symbols};
 use bits::{byte_at, field, low, power, push_byte};
 
@@ -28,20 +29,7 @@ pub(crate) struct Flow {
 struct Packed<'a, const B: usize> {
     start: Opening<'a>,
     symbols: Singles<B>,
-    ghost same: { symbols.kind ≡ start.state.alphabet },
-}
-
-// The status once the skip is done, from the budget and the space that are left.
-fn status_of(budget: u64, room: usize) -> Status
-    ensures { result ≡ status_for budget room }
-{
-    if budget == 0 {
-        return Status::Done;
-    }
-    if room == 0 {
-        return Status::Full;
-    }
-    Status::Hungry
+    ghost same: { symbols.table.kind ≡ start.state.alphabet },
 }
 
 // The answer where the loops of a call end, with output memory for `room`.
@@ -52,10 +40,10 @@ fn answered(state: StreamingDecoder, end: Flow, room: usize) -> Streamed
     ensures { result ≡ answered_by state end.acc end.have end.taken end.written room }
 {
     let budget = state.budget - end.written as u64;
-    Streamed::Moved {
+    Streamed {
         taken: end.taken,
         written: end.written,
-        status: status_of(budget, room - end.written),
+        status: Status::of(budget, room - end.written),
         next: StreamingDecoder {
             alphabet: state.alphabet,
             skip: 0,
@@ -96,7 +84,7 @@ impl<'a, const B: usize> Packed<'a, B> {
     // Blocks of eight bases, as many as budget, space and source allow. Eight bases use the bits of as many bytes as a base has bits, so a block leaves as many bits at
     // hand as it found. Each width, and each way to look symbols up, has a copy of its own, in which every shift but one is by a literal.
     fn blocks<T: Symbols<B>>(&self, by: &T, out: &mut [u8]) -> Flow
-        requires { T.reads by.now ≡ self.now.symbols.kind }
+        requires { T.reads by.now ≡ self.now.symbols.table.kind }
         ensures stands { Stands self.now.start.state self.now.start.source.now (length out.old) result }
         ensures count { result.written ≡ count_in_blocks self.now.start.state self.now.start.source.now (length out.old) self.now.start.flow.taken }
         ensures out_after { out.new ≡ filled self.now.start.state self.now.start.source.now result.written out.old }
@@ -171,7 +159,7 @@ impl<'a, const B: usize> Packed<'a, B> {
                 have += 8;
             }
             have -= B;
-            out[n] = self.symbols.table[field(acc, have, B)];
+            out[n] = self.symbols.table.symbols[field(acc, have, B)];
             acc = low(acc, have);
         }
         let end = Flow {

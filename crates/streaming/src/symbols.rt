@@ -4,7 +4,7 @@ ghost use Rattle.alphabet.specs.declared.kind.AlphabetType.{AlphabetType};
 ghost use Rattle.alphabet.specs.Symbols.{coding};
 ghost use Rattle.streaming.specs.Symbols.{decoding, block_of, Paired};
 
-use alphabet::{AlphabetType, decoding_array};
+use alphabet::{AlphabetType, DecodingTable};
 use bits::{field, low, power};
 
 // What looks up the symbols of codes that are B bits wide.
@@ -21,12 +21,10 @@ pub(crate) trait Symbols<const B: usize> {
 // The symbols one by one.
 #[derive(Clone, Copy)]
 pub(crate) struct Singles<const B: usize> {
-    pub kind: AlphabetType,
-    pub table: [u8; 32],
-    ghost wide: { (coding kind).width ≡ B },
+    pub table: DecodingTable,
+    ghost wide: { (coding table.kind).width ≡ B },
     ghost some: { 1 < B },
     ghost five: { B ≤ 5 },
-    ghost entries: { table ≡ decoding kind },
 }
 
 // The symbols two by two: at each number of twice a code's bits, those of the two codes that it writes, the first in the low half.
@@ -59,39 +57,38 @@ impl<const B: usize> Singles<B> {
         requires wide { (coding kind).width ≡ B }
         requires some { 1 < B }
         requires five { B ≤ 5 }
-        ensures { result.kind ≡ kind }
+        ensures { result.table.kind ≡ kind }
     {
         Singles {
-            kind,
-            table: decoding_array(kind),
+            table: DecodingTable::of(kind),
         }
     }
 
     // The table's entries two by two.
     pub fn paired(&self) -> Pairs<B>
-        ensures { result.kind ≡ self.now.kind }
+        ensures { result.kind ≡ self.now.table.kind }
     {
         let mut rows = [0u16; 1024];
         let all = power(B * 2) as usize;
         for v in 0..all {
             rows[v] = pair(
-                self.table[field(v as u64, B, B)],
-                self.table[low(v as u64, B) as usize],
+                self.table.symbols[field(v as u64, B, B)],
+                self.table.symbols[low(v as u64, B) as usize],
             );
         }
         Pairs {
-            kind: self.kind,
+            kind: self.table.kind,
             rows,
         }
     }
 }
 
 impl<const B: usize> Symbols<B> for Singles<B> {
-    ghost reads = { λ s. s.kind };
+    ghost reads = { λ s. s.table.kind };
 
     fn put_block(&self, codes: u64, block: &mut [u8]) {
         for (t, base) in block.iter_mut().enumerate() {
-            *base = self.table[field(codes, (7 - t) * B, B)];
+            *base = self.table.symbols[field(codes, (7 - t) * B, B)];
         }
     }
 }

@@ -1,4 +1,4 @@
-use Rattle.std.proofs.Common.{ap, sym, ◌∙◌}
+use Rattle.std.proofs.Common.{Err, ap, sym, ◌∙◌}
 use Rattle.streaming.specs.declared.decoder.StreamingDecoder.{StreamingDecoder}
 use Rattle.streaming.specs.Stream.{reads_by}
 use Rattle.streaming.proofs.Calls.{plain_of_eight, packed_else}
@@ -9,7 +9,7 @@ pub returns-then-not-is_sound : goal.returns-then-not-is_sound
 unfolding Met
 returns-then-not-is_sound c =
     let m = refuses c.args.self c.args.source.now c.args.out.now (sym c.is_sound.ensures ∙ c.if-not-is_sound.true) in
-    record { value = m.0; out_after = m.1 }
+    record { value = ap Err c.keeping.ensures ∙ m.0; out_after = m.1 }
 
 pub returns-then-not-can_begin : goal.returns-then-not-can_begin
 unfolding Met

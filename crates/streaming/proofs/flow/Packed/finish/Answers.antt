@@ -7,7 +7,7 @@ use Rattle.bits.proofs.Shifts.{push_byte_is, low_is}
 use Rattle.streaming.specs.Symbols.{decoding}
 use Rattle.streaming.specs.Flow.{Level, filled, answered_by}
 use Rattle.streaming.proofs.Levels.{level_lt, level_fill, level_same, level_all, level_dry, level_answer, fill_more}
-use Rattle.streaming.proofs.Entries.{code_is}
+use Rattle.streaming.proofs.Entries.{entries, code_is}
 use Rattle.streaming.proofs.Pumping.{width_is, next_base, next_level}
 use Rattle.streaming.proofs.flow.Packed.finish.Goals as goal
 use Rattle.streaming.proofs.flow.Packed.finish.Goals.{then-have+else-taken-source, else-have}
@@ -70,7 +70,7 @@ loop-n-preserved g c =
       few = few;
       bases =
           fill_more s source c.loop-n.out c.args.out.now c.loop-n.n _ (omega arith) inv.bases
-          (ap (λ (t : List ℕ). at t c.field.result) p.symbols.entries ∙ ap (λ (k : AlphabetType). at (decoding k) c.field.result) p.same
+          (ap (λ (t : List ℕ). at t c.field.result) (entries p.symbols.table) ∙ ap (λ (k : AlphabetType). at (decoding k) c.field.result) p.same
           ∙ next_base s source g.row.B wide ready.0 ready.1.0 c.field.result code.1 code.0);
     }
 

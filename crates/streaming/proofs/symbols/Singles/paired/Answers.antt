@@ -3,7 +3,7 @@ use lib.Pow.{pow_mono}
 use Rattle.bits.specs.Tables.{at}
 use Rattle.bits.proofs.Shifts.{power_is, low_is, code_lt}
 use Rattle.streaming.specs.Symbols.{decoding}
-use Rattle.streaming.proofs.Entries.{code_is, paired_more}
+use Rattle.streaming.proofs.Entries.{entries, code_is, paired_more}
 use Rattle.streaming.proofs.symbols.Singles.paired.Goals as goal
 
 pub bounds-self-field : goal.bounds-self-field
@@ -30,7 +30,7 @@ loop-v-preserved g c =
     let first = code_is v (omega (arith, s.five)) s.five c.field.ensures in
     let second : c.low.result ≡ v % 2 ^ g.row.B = c.low.ensures ∙ low_is (omega (arith, s.five)) _ in (
       simp length-set c.loop-v.invariant.0,
-      paired_more (decoding s.kind) c.loop-v.rows g.row.B v c.pair.result (omega (arith, c.loop-v.invariant.0)) c.loop-v.invariant.1
-          (c.pair.ensures.first ∙ ap (at s.table) first.0 ∙ ap (λ (t : List ℕ). at t (v / 2 ^ g.row.B % 2 ^ g.row.B)) s.entries)
-          (c.pair.ensures.second ∙ ap (at s.table) second ∙ ap (λ (t : List ℕ). at t (v % 2 ^ g.row.B)) s.entries),
+      paired_more (decoding s.table.kind) c.loop-v.rows g.row.B v c.pair.result (omega (arith, c.loop-v.invariant.0)) c.loop-v.invariant.1
+          (c.pair.ensures.first ∙ ap (at s.table.symbols) first.0 ∙ ap (λ (t : List ℕ). at t (v / 2 ^ g.row.B % 2 ^ g.row.B)) (entries s.table))
+          (c.pair.ensures.second ∙ ap (at s.table.symbols) second ∙ ap (λ (t : List ℕ). at t (v % 2 ^ g.row.B)) (entries s.table)),
     )

@@ -1,5 +1,5 @@
 use borrow.Author.Tests.{eq-eqb, ne_eqb}
-use Rattle.streaming.proofs.flow.status_of.Goals as goal
+use Rattle.streaming.proofs.status.Status.of.Goals as goal
 
 pub returns-then-budget-eq0 : goal.returns-then-budget-eq0
 returns-then-budget-eq0 c = simp (eq-eqb c.args.budget 0 c.if-budget-eq0.true)
