@@ -163,21 +163,25 @@ module _ (A : Coding) (text : List ℕ) where
   pub passed_all : (i : ℕ) → length text ≤ i → Passed A text i → members_ahead_of A text ≡ length text
   passed_all i h p = sym (ahead_is A text (length text) (omega arith) (λ j l. p.members j (omega arith)) (λ l. absurd (omega arith)))
 
-  -- the place of the next non-member, behind what is passed
+  -- the search behind what is passed: in the other bytes, as they are lent
+  pub behind_some : (i k : ℕ) → Passed A text i → k ≡ members_ahead_of A (take (length text - i) (drop i text)) → k < length (take (length text - i) (drop i text))
+      → (i + k ≡ members_ahead_of A text) × (i + k < length text)
+  behind_some i k p e h =
+      let long : length (take (length text - i) (drop i text)) ≡ length text - i = length-take-le (length text - i) (drop i text) (omega (arith, length-drop i text)) in
+      (omega (arith, e, ahead_part A text i p), omega (arith, h, long))
+
+  pub behind_none : (i : ℕ) → Passed A text i → members_ahead_of A (take (length text - i) (drop i text)) ≡ length (take (length text - i) (drop i text))
+      → members_ahead_of A text ≡ length text
+  behind_none i p e =
+      let long : length (take (length text - i) (drop i text)) ≡ length text - i = length-take-le (length text - i) (drop i text) (omega (arith, length-drop i text)) in
+      omega (arith, e, ahead_part A text i p, long, p.within)
+
   pub stranger_next : (i k : ℕ) → Passed A text i
       → Some k ≡ position (λ x. not (A.member x)) (take (length text - i) (drop i text)) → (i + k ≡ members_ahead_of A text) × (i + k < length text)
-  stranger_next i k p e =
-      let rest : List ℕ = take (length text - i) (drop i text) in
-      let at_k = some_first A rest k e in
-      let behind = ahead_part A text i p in
-      let long : length rest ≡ length text - i = length-take-le (length text - i) (drop i text) (omega (arith, length-drop i text)) in
-      (omega (arith, at_k.0, behind), omega (arith, at_k.1, long))
+  stranger_next i k p e = let first = some_first A (take (length text - i) (drop i text)) k e in behind_some i k p first.0 first.1
 
   pub stranger_none : (i : ℕ) → Passed A text i → None ≡ position (λ x. not (A.member x)) (take (length text - i) (drop i text)) → members_ahead_of A text ≡ length text
-  stranger_none i p e =
-      let rest : List ℕ = take (length text - i) (drop i text) in
-      let long : length rest ≡ length text - i = length-take-le (length text - i) (drop i text) (omega (arith, length-drop i text)) in
-      omega (arith, no_first A rest e, ahead_part A text i p, long, p.within)
+  stranger_none i p e = behind_none i p (no_first A (take (length text - i) (drop i text)) e)
 
   -- ---- the count
 

@@ -1,8 +1,8 @@
-// The first byte of a text that is no member of an alphabet.
+// A byte of a text that is no member of an alphabet.
 
-// A non-member's position and byte, where there is one.
-#[derive(Clone, Copy)]
-pub enum First {
-    Nothing,
-    At { position: usize, byte: u8 },
+// Its position in the text, and the byte as it came.
+#[derive(Clone, Copy, Debug, PartialEq, Eq, Hash)]
+pub struct Stranger {
+    pub position: usize,
+    pub byte: u8,
 }
