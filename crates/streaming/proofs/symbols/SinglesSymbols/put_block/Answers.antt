@@ -14,8 +14,10 @@ pub loop-t-preserved : goal.loop-t-preserved
 loop-t-preserved g c =
     let s = c.args.self.now in
     let code = code_is _ (omega (arith, few_behind c.loop-t.t g.row.B s.five)) s.five c.field.ensures in
-    entry_more (entry_at (decoding s.table.kind) g.row.B 8 c.args.codes) c.loop-t.t _ c.loop-t.block (omega arith) c.loop-t.invariant
-    (ap (at s.table.symbols) code.0 ∙ ap (λ (t : List ℕ). at t (c.args.codes / 2 ^ ((7 - c.loop-t.t) * g.row.B) % 2 ^ g.row.B)) (entries s.table))
+    let more =
+    entry_more (entry_at (decoding s.table.kind) g.row.B 8 c.args.codes) c.loop-t.t (at s.table.symbols c.field.result) c.loop-t.block (omega arith) c.loop-t.invariant
+    (ap (at s.table.symbols) code.0 ∙ ap (λ (t : List ℕ). at t (c.args.codes / 2 ^ ((7 - c.loop-t.t) * g.row.B) % 2 ^ g.row.B)) (entries s.table)) in
+    λ k l. omega (arith, more k l)
 
 pub returns : goal.returns
 returns g c =
