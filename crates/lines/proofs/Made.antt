@@ -1,17 +1,16 @@
 -- How long each function's lines are.
-use mathlib.Core.Path.{◌≡◌, refl, sym, ap, ◌∙◌}
+use mathlib.Core.Path.{◌≡◌, refl, sym}
 use mathlib.Core.List.{List, [], ◌∷◌, ◌++◌, append_assoc}
 use Prim.Native.Nat.{ℕ, ◌+◌, ◌*◌, ◌≤◌}
 use native.Mathlib.Omega.{arith}
-use lib.ListN.{length, take, length-append}
-use lib.Seq.{length-take-le}
+use lib.ListN.{length, length-append}
+use lib.Dec.{lit≤}
 use Rattle.bits.specs.Tables.{bytes_of}
 use Rattle.alphabet.specs.Questions.{refusal_reply, number_in}
-use Rattle.alphabet.specs.Names.{display_name_of, name_of}
+use Rattle.alphabet.specs.Names.{display_name_of}
 use Rattle.alphabet.specs.declared.kind.AlphabetType.{AlphabetType}
-use Rattle.alphabet.specs.declared.kind.Name.{Name}
+use Rattle.alphabet.specs.declared.kind.AlphabetType.TheVariants.{Dna2bit, Dna3bit, DnaIupac, Protein, Ascii, Unknown}
 use Rattle.alphabet.specs.declared.refusal.Refusal.{Refusal}
-use Rattle.alphabet.proofs.Calls.{spelt, name_within}
 use Rattle.lines.specs.Digits.{decimal, hex}
 use Rattle.lines.specs.Lines.{line, packed_lines_of, refused_line_of}
 use Rattle.lines.proofs.Spelling.{decimal_short, hex-length}
@@ -39,18 +38,16 @@ refused_parts q = sym (append_assoc refused_word (decimal (number_in (refusal_re
 
 -- ---- a packing
 
+pub name_short : (k : AlphabetType) → length (display_name_of k) ≤ 7
+unfolding display_name_of bytes_of
+name_short Dna2bit = lit≤ tt
+name_short Dna3bit = lit≤ tt
+name_short DnaIupac = lit≤ tt
+name_short Protein = lit≤ tt
+name_short Ascii = lit≤ tt
+name_short Unknown = lit≤ tt
+
 module _ (k : AlphabetType) where
-  pub name_short : length (display_name_of k) ≤ 7
-  name_short =
-      omega (arith, ap length (spelt k).front, length-take-le (name_of k).len (name_of k).bytes (name_within (name_of k) k refl), (spelt k).within)
-
-  pub name_length : (name : Name) → name ≡ name_of k → name.len ≡ length (display_name_of k)
-  name_length name e =
-      ap (λ (n : Name). n.len) e ∙ sym (length-take-le (name_of k).len (name_of k).bytes (name_within (name_of k) k refl)) ∙ ap length (spelt k).front
-
-  pub name_front : (name : Name) → name ≡ name_of k → take name.len name.bytes ≡ display_name_of k
-  name_front name e = rw e (spelt k).front
-
   pub packed_length :
       (count : ℕ) (packed : List ℕ)
       → length (packed_lines_of k count packed) ≡ length (display_name_of k) + length (decimal count) + 2 * length packed + 3
@@ -77,4 +74,4 @@ packed-most k count packed = omega (arith, packed_length k count packed, name_sh
 -- for the functions that put them
 pub ruleset refused_put = (whole_count, whole_memory, short_count, short_memory, line_length, refused_length)
 
-pub ruleset packed_put = (whole_count, whole_memory, short_count, short_memory, line_length, hex-length, packed_length, name_short, name_length)
+pub ruleset packed_put = (whole_count, whole_memory, short_count, short_memory, line_length, hex-length, packed_length, name_short)

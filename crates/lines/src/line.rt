@@ -81,8 +81,7 @@ pub fn packed_lines(kind: AlphabetType, count: u64, packed: &[u8], out: &mut [u8
     ensures value { result ≡ put_count (packed_lines_of kind count packed.now) (length out.old) }
     ensures memory { out.new ≡ put_memory (packed_lines_of kind count packed.now) out.old }
 {
-    let shown = kind.display_name();
-    let name = &shown.bytes[..shown.len];
+    let name = kind.display_name().as_bytes();
     let mut memory = [0; MOST_DIGITS];
     let digits = decimal(count, &mut memory);
     let (first, rest) = out.split_at_mut_checked(name.len() + 1)?;

@@ -10,7 +10,8 @@ use coder::{
     Encoded, EncoderStarted, Ended, Finalized, Read, SequenceEncoder, Status, StreamStarted,
     Streamed, StreamingDecoder, Updated,
 };
-use shown::{Hex, Letters, Name, Told};
+use shown::{Foretold, Hex, Letters, Name, Told};
+use std::fmt::Display;
 
 // Memory that calls write into holds this byte before, so that what they leave is seen.
 const UNWRITTEN: u8 = 0xAA;
@@ -20,27 +21,29 @@ fn front(memory: &[u8], count: usize) -> &[u8] {
     &memory[..count.min(memory.len())]
 }
 
-// The packed bytes that a call wrote, or its refusal.
-fn print_packed(rt: &impl Print, answer: Result<usize, Refusal>, out: &[u8]) -> Result<()> {
+// What a call answered, behind its label.
+fn tell<T: Display + Drop, E: Into<Refusal>>(
+    rt: &impl Print,
+    label: &str,
+    answer: Result<T, E>,
+) -> Result<()> {
     match answer {
-        Ok(count) => println!(rt; "{}", Hex(front(out, count)))?,
-        Err(refusal) => println!(rt; "{}", Told(refusal))?,
+        Ok(value) => println!(rt; "{label}: {value}")?,
+        Err(refusal) => println!(rt; "{label}: {}", Told(refusal.into()))?,
     }
     Ok(())
 }
 
 fn pack(rt: &impl Print, label: &str, kind: AlphabetType, fold: bool, text: &str) -> Result<()> {
     let mut out = [UNWRITTEN; 9];
-    let answer = coder::encode_sequence(kind.number(), fold, text.as_bytes(), &mut out);
-    print!(rt; "{label}: ")?;
-    print_packed(rt, encoded(answer), &out)
+    let answer = encoded(coder::encode_sequence(kind.number(), fold, text.as_bytes(), &mut out));
+    tell(rt, label, answer.map(|count| Hex(front(&out, count))))
 }
 
 fn finish(rt: &impl Print, encoder: SequenceEncoder) -> Result<()> {
     let mut out = [UNWRITTEN; 9];
-    let answer = encoder.finalize(&mut out);
-    print!(rt; "finalize: ")?;
-    print_packed(rt, finalized(answer), &out)
+    let answer = finalized(encoder.finalize(&mut out));
+    tell(rt, "finalize", answer.map(|count| Hex(front(&out, count))))
 }
 
 // One piece, and the bytes that it completes behind its label.
@@ -77,40 +80,23 @@ fn ask(
     piece: &str,
     room: usize,
 ) -> Result<()> {
-    print!(rt; "ask {label}: ")?;
-    match updated(encoder.ask(piece.as_bytes(), room)) {
-        Ok((count, next)) => println!(rt;
-            "{count} to be written, {} seen, {} bits pending, value {}, non-members {}",
-            next.seen, next.bits, next.pending, next.bad.count
-        )?,
-        Err(refusal) => println!(rt; "{}", Told(refusal))?,
-    }
-    Ok(())
+    let answer = updated(encoder.ask(piece.as_bytes(), room));
+    tell(
+        rt,
+        label,
+        answer.map(|(count, next)| Foretold { count, next }),
+    )
 }
 
 // A scheduler asks before it lends memory: with none, with what is enough, with any number; then the piece is packed as it was asked about.
 fn asking(rt: &impl Print) -> Result<()> {
     let encoder = started(SequenceEncoder::new(Dna2bit.number(), false)).map_err(refused)?;
-    ask(rt, "ACGTA, room 0", encoder, "ACGTA", 0)?;
-    ask(rt, "ACGTA, room 1", encoder, "ACGTA", 1)?;
-    ask(rt, "ACGTA, room 2^64 - 1", encoder, "ACGTA", usize::MAX)?;
-    ask(rt, "ACG, room 0", encoder, "ACG", 0)?;
-    ask(rt, "ACNT, room 1", encoder, "ACNT", 1)?;
+    ask(rt, "ask ACGTA, room 0", encoder, "ACGTA", 0)?;
+    ask(rt, "ask ACGTA, room 1", encoder, "ACGTA", 1)?;
+    ask(rt, "ask ACGTA, room 2^64 - 1", encoder, "ACGTA", usize::MAX)?;
+    ask(rt, "ask ACG, room 0", encoder, "ACG", 0)?;
+    ask(rt, "ask ACNT, room 1", encoder, "ACNT", 1)?;
     pack_pieces(rt, "ACGTA", false, "ACGTA", "CGT")
-}
-
-// The bases that a call decoded, or its refusal.
-fn print_read(
-    rt: &impl Print,
-    label: &str,
-    answer: Result<usize, Refusal>,
-    out: &[u8],
-) -> Result<()> {
-    match answer {
-        Ok(count) => println!(rt; "{label}: {}", Letters(front(out, count)))?,
-        Err(refusal) => println!(rt; "{label}: {}", Told(refusal))?,
-    }
-    Ok(())
 }
 
 fn guess(rt: &impl Print, label: &str, fold: bool, text: &str) -> Result<AlphabetType> {
@@ -120,11 +106,11 @@ fn guess(rt: &impl Print, label: &str, fold: bool, text: &str) -> Result<Alphabe
 }
 
 fn later(rt: &impl Print, label: &str, one: u64, other: u64) -> Result<()> {
-    match named(alphabet::later_alphabet(one, other)) {
-        Ok(kind) => println!(rt; "{label}: {}", name(kind))?,
-        Err(refusal) => println!(rt; "{label}: {}", Told(refusal))?,
-    }
-    Ok(())
+    tell(
+        rt,
+        label,
+        named(alphabet::later_alphabet(one, other)).map(name),
+    )
 }
 
 // Two chromosomes guessed one by one, and the guess of both joined; either number may name no alphabet.
@@ -155,34 +141,50 @@ fn counting(rt: &impl Print) -> Result<()> {
     pack_pieces(rt, "ACNTN", false, "ACNTN", "NTT")
 }
 
+// What a read of bytes lent to it answers: the bases that it wrote, or its refusal.
+fn read<D: FnOnce(&mut [u8]) -> Read + Drop>(rt: &impl Print, label: &str, decode: D) -> Result<()>
+    requires { D.IsAlwaysCallable decode }
+{
+    let mut out = [UNWRITTEN; 9];
+    let answer = bases(decode(&mut out));
+    tell(rt, label, answer.map(|count| Letters(front(&out, count))))
+}
+
 fn windows(rt: &impl Print) -> Result<()> {
     let alphabet = Dna2bit.number();
     let bytes = [0x80];
-    let mut out = [UNWRITTEN; 9];
-    let seen = coder::decode_substring_from_bytes_at_offset(alphabet, &bytes, 1, 2, 5, &mut out);
-    print_read(rt, "80 at 1, Dna2bit, 2 to 5", read(seen), &out)?;
-    let covered = coder::decode_covered(alphabet, &bytes, 1, 2, 5, &mut out);
-    print_read(rt, "covered", read(covered), &out)?;
-    let far = coder::decode_string_from_bytes(alphabet, &bytes, 1 << 60, &mut []);
-    print_read(rt, "end 2^60, no memory", read(far), &out)?;
-    let farther = coder::decode_string_from_bytes(alphabet, &bytes, (1 << 60) + 1, &mut []);
-    print_read(rt, "end 2^60 + 1", read(farther), &out)
+    read(rt, "80 at 1, Dna2bit, 2 to 5", |out| {
+        coder::decode_substring_from_bytes_at_offset(alphabet, &bytes, 1, 2, 5, out)
+    })?;
+    read(rt, "covered", |out| {
+        coder::decode_covered(alphabet, &bytes, 1, 2, 5, out)
+    })?;
+    read(rt, "end 2^60, no memory", |_| {
+        coder::decode_string_from_bytes(alphabet, &bytes, 1 << 60, &mut [])
+    })?;
+    read(rt, "end 2^60 + 1", |_| {
+        coder::decode_string_from_bytes(alphabet, &bytes, (1 << 60) + 1, &mut [])
+    })
 }
 
 // Codes that Protein's list lacks: a zero-filling read shows X, the covered read tells the first of them.
 fn residues(rt: &impl Print) -> Result<()> {
     let alphabet = Protein.number();
-    let mut out = [UNWRITTEN; 9];
-    let shown = coder::decode_string_from_bytes(alphabet, &[0xE8], 1, &mut out);
-    print_read(rt, "e8, Protein, 0 to 1", read(shown), &out)?;
-    let none = coder::decode_covered(alphabet, &[0xE8], 0, 0, 1, &mut out);
-    print_read(rt, "covered", read(none), &out)?;
-    let second = coder::decode_covered(alphabet, &[0x07, 0x40], 0, 0, 2, &mut out);
-    print_read(rt, "07 40, Protein, 0 to 2, covered", read(second), &out)?;
-    let first = coder::decode_covered(alphabet, &[0x07, 0x40], 0, 0, 1, &mut out);
-    print_read(rt, "0 to 1, covered", read(first), &out)?;
-    let unknown = coder::decode_covered(alphabet, &[0xA8], 0, 0, 1, &mut out);
-    print_read(rt, "a8, Protein, 0 to 1, covered", read(unknown), &out)
+    read(rt, "e8, Protein, 0 to 1", |out| {
+        coder::decode_string_from_bytes(alphabet, &[0xE8], 1, out)
+    })?;
+    read(rt, "covered", |out| {
+        coder::decode_covered(alphabet, &[0xE8], 0, 0, 1, out)
+    })?;
+    read(rt, "07 40, Protein, 0 to 2, covered", |out| {
+        coder::decode_covered(alphabet, &[0x07, 0x40], 0, 0, 2, out)
+    })?;
+    read(rt, "0 to 1, covered", |out| {
+        coder::decode_covered(alphabet, &[0x07, 0x40], 0, 0, 1, out)
+    })?;
+    read(rt, "a8, Protein, 0 to 1, covered", |out| {
+        coder::decode_covered(alphabet, &[0xA8], 0, 0, 1, out)
+    })
 }
 
 fn stream(rt: &impl Print) -> Result<()> {
@@ -190,11 +192,7 @@ fn stream(rt: &impl Print) -> Result<()> {
     let mut out = [UNWRITTEN; 4];
     let (status, next) = moved(stream.read(&[], &mut out)).map_err(refused)?;
     println!(rt; "stream, skip 3, budget 0, no source: {}", name_of(status))?;
-    match ended(next.end()) {
-        Ok(()) => println!(rt; "end call: complete")?,
-        Err(refusal) => println!(rt; "end call: {}", Told(refusal))?,
-    }
-    Ok(())
+    tell(rt, "end call", ended(next.end()).map(|()| "complete"))
 }
 
 fn main(rt: HostRuntime) -> Result<()> {
@@ -249,7 +247,7 @@ fn refused(refusal: Refusal) -> anyhow::Error {
     anyhow!("{}", Told(refusal))
 }
 
-fn read(answer: Read) -> Result<usize, Refusal> {
+fn bases(answer: Read) -> Result<usize, Refusal> {
     match answer {
         Read::Bases(count) => Ok(count),
         Read::Refused(refusal) => Err(refusal),

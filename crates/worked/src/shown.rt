@@ -1,5 +1,6 @@
 // How answers are printed.
 use alphabet::Refusal;
+use coder::SequenceEncoder;
 use std::fmt::{self, Display, Formatter, Write};
 
 // Bytes in hexadecimal.
@@ -58,5 +59,24 @@ pub struct Name(pub alphabet::Name);
 impl Display for Name {
     fn fmt<W: Write>(&self, f: &mut Formatter<W>) -> fmt::Result {
         write!(f, "{}", Letters(&self.0.bytes[..self.0.len.min(7)]))
+    }
+}
+
+// What `ask` answers: how many bytes would be written, and what the next state has seen and keeps.
+#[derive(Drop)]
+pub struct Foretold {
+    pub count: usize,
+    pub next: SequenceEncoder,
+}
+
+impl Display for Foretold {
+    fn fmt<W: Write>(&self, f: &mut Formatter<W>) -> fmt::Result {
+        let count = self.count;
+        let next = self.next;
+        write!(
+            f,
+            "{count} to be written, {} seen, {} bits pending, value {}, non-members {}",
+            next.seen, next.bits, next.pending, next.bad.count
+        )
     }
 }

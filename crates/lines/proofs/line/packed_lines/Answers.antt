@@ -1,11 +1,7 @@
 use Rattle.std.proofs.Common.{◌≡◌, ◌++◌, arith, ◌∙◌, ap}
 use Rattle.lines.specs.Lines.{packed_lines_of, put_memory}
-use Rattle.lines.proofs.Made.{name_short, name_length, name_front}
 use Rattle.lines.proofs.Parts.{three_over}
 use Rattle.lines.proofs.line.packed_lines.Goals as goal
-
-pub shared_ref_as_front-name : goal.shared_ref_as_front-name
-shared_ref_as_front-name c = omega (arith, name_length c.args.kind _ c.display_name-shown.ensures, name_short c.args.kind)
 
 -- that memory is taken for the whole line
 pub fill_hex_line-requires : goal.fill_hex_line-requires
@@ -22,6 +18,6 @@ returns-clause-memory c =
     let a = c.fill_line.new.out in
     let b = c.fill_line-2.new.out in
     let d = c.fill_hex_line.new.out in
-    let made : a ++ (b ++ d) ≡ packed_lines_of k c.args.count c.args.packed.now = cc (name_front k _ c.display_name-shown.ensures) in
+    let made : a ++ (b ++ d) ≡ packed_lines_of k c.args.count c.args.packed.now = cc in
     three_over a b d memory c.in_ok-out.first.now c.in_ok-rest.second.now c.in_ok-rest-2.third.now c.in_ok-rest-2.field-0-1.now (cc) (omega arith) (omega arith) (omega arith)
     ∙ ap (λ text. put_memory text memory) made
