@@ -1,5 +1,5 @@
 -- Lines of text. States document 01 on the program `packseq`: what stands in each of its lines.
-use Rattle.std.specs.Prelude.{ℕ, List, [], ◌∷◌, ◌++◌, leb, length}
+use Rattle.std.specs.Prelude.{ℕ, List, [], ◌∷◌, ◌++◌, leb, length, Option, Some, None}
 use Rattle.bits.specs.Tables.{bytes_of}
 use Rattle.bits.specs.Memory.{front}
 use Rattle.alphabet.specs.Questions.{ask◌else◌then◌, refusal_reply, number_in}
@@ -25,8 +25,8 @@ refused_line_of refusal = line (bytes_of "refused " ++ decimal (number_in (refus
 -- ---- where they go
 
 -- a call that puts a text at the front of memory writes the whole of it, or nothing where the memory is too short: the bytes written
-unfoldable pub put_count : List ℕ → ℕ → ℕ
-put_count text room = ask leb (length text) room else 0 then length text
+unfoldable pub put_count : List ℕ → ℕ → Option ℕ
+put_count text room = ask leb (length text) room else None then Some (length text)
 
 -- and the memory afterwards
 unfoldable pub put_memory : List ℕ → List ℕ → List ℕ

@@ -67,13 +67,13 @@ module _ (A : Coding) where
   passed_fewer text i n h p = record { within = omega (arith, p.within); members = λ j l. p.members j (omega arith) }
 
   -- those that the first h bytes begin with, as these are lent
-  pub passed_ahead : (text : List ℕ) (h m : ℕ) → h ≤ length text → m ≡ members_ahead_of A (take (h - 0) text) → Passed A text m
+  pub passed_ahead : (text : List ℕ) (h m : ℕ) → h ≤ length text → m ≡ members_ahead_of A (take h text) → Passed A text m
   passed_ahead text h m within e =
-      let long : length (take (h - 0) text) ≡ h - 0 = length-take-le (h - 0) text (omega arith) in
-      let few : m ≤ h - 0 = omega (arith, e, long, ahead_within (take (h - 0) text)) in
+      let long : length (take h text) ≡ h = length-take-le h text (omega arith) in
+      let few : m ≤ h = omega (arith, e, long, ahead_within (take h text)) in
       record {
         within = omega (arith, few);
-        members = λ j l. ap A.member (sym (get_or-take (h - 0) text j 0 (omega (arith, few)))) ∙ ahead_members (take (h - 0) text) j (omega (arith, e));
+        members = λ j l. ap A.member (sym (get_or-take h text j 0 (omega (arith, few)))) ∙ ahead_members (take h text) j (omega (arith, e));
       }
 
   -- those that a part begins with, as it is lent

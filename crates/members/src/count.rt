@@ -1,58 +1,34 @@
-// How many bytes of a text are no members of an alphabet, by the choice to fold.
-ghost use Rattle.std.specs.Prelude.{◌≡◌, cond, not, ◌+◌, ◌≤◌, length, drop};
-ghost use Rattle.alphabet.specs.Symbols.{coding_by};
+// How many bytes of a text are no members of an alphabet.
+ghost use Rattle.std.specs.Prelude.{◌≡◌, ◌≤◌, length};
+ghost use Rattle.alphabet.specs.Symbols.{coding_of};
 ghost use Rattle.members.specs.Members.{bad_in};
 
-use alphabet::{AlphabetType, takes};
+use alphabet::{AlphabetType, TextAlphabet};
 
-// 1 for a byte that is no member, and 0 for a member.
-fn stranger(kind: AlphabetType, fold: bool, byte: u8) -> u8
-    ensures { result ≡ cond (not ((coding_by fold kind).member byte)) 1 0 }
-{
-    (!takes(kind, fold, byte)) as u8
-}
-
-// Counts the non-members among 128 bytes, from byte i on. There is no branch in it, so that a text of nothing else is as fast as any, and the count is a byte, so
-// that the compiler may count many at once.
-fn strangers(kind: AlphabetType, fold: bool, text: &[u8], i: usize) -> u8
-    requires { i + 128 ≤ length text.now }
-    ensures { result + bad_in (coding_by fold kind) (drop (i + 128) text.now) ≡ bad_in (coding_by fold kind) (drop i text.now) }
+// Counts the non-members among bytes that are few enough for a byte to count them. There is no branch in it, so that a text of nothing else is as fast as any, and the
+// compiler may count many at once.
+fn strangers(alphabet: TextAlphabet, text: &[u8]) -> u8
+    requires { length text.now ≤ 128 }
+    ensures { result ≡ bad_in (coding_of alphabet) text.now }
 {
     let mut sum = 0;
-    for j in 0..128 {
-        sum += stranger(kind, fold, text[i + j]);
+    for &byte in text {
+        sum += u8::from(!alphabet.takes(byte));
     }
     sum
 }
 
-// The non-members of a text, 128 bytes at a time and then a byte at a time.
-fn count(kind: AlphabetType, fold: bool, text: &[u8]) -> usize
-    ensures { result ≡ bad_in (coding_by fold kind) text.now }
+// The non-members of a text, 128 bytes at a time, and then those of the bytes that are left.
+pub fn count_strangers(alphabet: TextAlphabet, text: &[u8]) -> usize
+    ensures { result ≡ bad_in (coding_of alphabet) text.now }
 {
-    let n = text.len();
-    let mut sum = 0;
-    let mut i = 0;
-    while 128 <= n - i {
-        sum += strangers(kind, fold, text, i) as usize;
-        i += 128;
+    if let AlphabetType::Ascii | AlphabetType::Unknown = alphabet.kind {
+        return 0;
     }
-    while i < n {
-        sum += stranger(kind, fold, text[i]) as usize;
-        i += 1;
+    let (blocks, rest) = text.as_chunks::<128>();
+    let mut sum = usize::from(strangers(alphabet, rest));
+    for block in blocks {
+        sum += usize::from(strangers(alphabet, block));
     }
     sum
-}
-
-// The same. The alphabet is a constant at each call, so that the compiler makes a loop for each.
-pub fn count_strangers(kind: AlphabetType, fold: bool, text: &[u8]) -> usize
-    ensures { result ≡ bad_in (coding_by fold kind) text.now }
-{
-    match kind {
-        AlphabetType::Dna2bit => count(AlphabetType::Dna2bit, fold, text),
-        AlphabetType::Dna3bit => count(AlphabetType::Dna3bit, fold, text),
-        AlphabetType::DnaIupac => count(AlphabetType::DnaIupac, fold, text),
-        AlphabetType::Protein => count(AlphabetType::Protein, fold, text),
-        AlphabetType::Ascii => 0,
-        AlphabetType::Unknown => 0,
-    }
 }

@@ -15,22 +15,19 @@ use Rattle.bits.specs.Memory.{front}
 use Rattle.bits.proofs.Computed.{both_true}
 use Rattle.bits.proofs.Hand.{hand_head}
 use Rattle.alphabet.specs.declared.kind.AlphabetType.{AlphabetType}
-use Rattle.alphabet.specs.declared.kind.Named.{Named}
 use Rattle.alphabet.specs.declared.refusal.Refusal.{Refusal}
 use Rattle.alphabet.specs.Questions.{ask◌else◌then◌, by, limit, in_bounds}
 use Rattle.alphabet.specs.Symbols.{Coding, coding_by}
 use Rattle.alphabet.specs.Names.{named_at}
 use Rattle.alphabet.proofs.Laws.{lawful}
 use Rattle.alphabet.proofs.Calls.{named_kind, named-refused}
-use Rattle.packing.specs.declared.first.First.{First}
+use Rattle.std.proofs.Common.{Option, Some, None, Result, Ok, Err}
+use Rattle.alphabet.specs.declared.refusal.Refused.{Refused}
+use Rattle.alphabet.specs.Refusing.{◌keeping◌}
+use Rattle.packing.specs.declared.stranger.Stranger.{Stranger}
 use Rattle.packing.specs.declared.bad.Bad.{Bad}
 use Rattle.packing.specs.declared.encoder.SequenceEncoder.{SequenceEncoder}
-use Rattle.packing.specs.declared.encoder.EncoderStarted.{EncoderStarted}
 use Rattle.packing.specs.declared.encoder.Updated.{Updated}
-use Rattle.packing.specs.declared.encoder.Due.{Due}
-use Rattle.packing.specs.declared.encoder.Finalized.{Finalized}
-use Rattle.packing.specs.declared.sequence.Encoded.{Encoded}
-use Rattle.packing.specs.declared.range.Range.{Range}
 use Rattle.packing.specs.Encode.{digit_of, digits_of, packing, first_from, bad_from_of, both_bad_of, unless_bad}
 use Rattle.members.specs.Members.{bad_in}
 use Rattle.packing.specs.Encode.{encode_by, encode_at, encode_writes, encode_memory, packs_by, fresh_encoder, sound_first, sound_count, sound_bad, sound_encoder, start_encoder_at}
@@ -48,36 +45,36 @@ pub product_le : (n b : ℕ) → n ≤ limit → b ≤ 8 → n * b ≤ limit * 8
 product_le n b h l = mul-le-mul h l
 
 module _ (s e b : ℕ) where
-  pub range-wide : 8 < b → Range.Refused (by 9 []) ≡ range_at s e b
+  pub range-wide : 8 < b → Err (by 9 []) ≡ range_at s e b
   unfolding range_at
   range-wide h = sym (rw (lt-leb b 8 h))
 
-  pub range_start : b ≤ 8 → limit < s → Range.Refused (by 2 []) ≡ range_at s e b
+  pub range_start : b ≤ 8 → limit < s → Err (by 2 []) ≡ range_at s e b
   unfolding range_at
   range_start h l = sym (rw (le-leb b 8 h, lt-leb s limit l))
 
-  pub range_end : b ≤ 8 → s ≤ limit → limit < e → Range.Refused (by 2 []) ≡ range_at s e b
+  pub range_end : b ≤ 8 → s ≤ limit → limit < e → Err (by 2 []) ≡ range_at s e b
   unfolding range_at
   range_end h l m = sym (rw (le-leb b 8 h, le-leb s limit l, lt-leb e limit m))
 
-  pub range-fine : b ≤ 8 → s ≤ limit → e ≤ limit → Range.Bytes (s * b / 8) ((e * b + 7) / 8) ≡ range_at s e b
+  pub range-fine : b ≤ 8 → s ≤ limit → e ≤ limit → Ok (record { from = s * b / 8; to = (e * b + 7) / 8 }) ≡ range_at s e b
   unfolding range_at
   range-fine h l m = sym (rw (le-leb b 8 h, le-leb s limit l, le-leb e limit m))
 
 -- ---- `new`
 
 module _ (n : ℕ) (fold : Bool) where
-  pub start_known : (k : AlphabetType) → named_at n ≡ Named.Kind k → EncoderStarted.Fresh (fresh_encoder fold k) ≡ start_encoder_at n fold
+  pub start_known : (k : AlphabetType) → named_at n ≡ Ok k → Ok (fresh_encoder fold k) ≡ start_encoder_at n fold
   unfolding start_encoder_at
   start_known k e =
       let s = named_kind n k e in
-      sym (rw s.0 (ap (λ (x : AlphabetType). EncoderStarted.Fresh (fresh_encoder fold x)) s.1))
+      sym (rw s.0 (ap (λ (x : AlphabetType). Ok (fresh_encoder fold x)) s.1))
 
-  pub start_refused : (q : Refusal) → named_at n ≡ Named.Refused q → EncoderStarted.Refused q ≡ start_encoder_at n fold
+  pub start_refused : (q : Refusal) → named_at n ≡ Err q → Err q ≡ start_encoder_at n fold
   unfolding start_encoder_at
   start_refused q e =
       let s = named-refused n q e in
-      sym (rw s.0 (ap EncoderStarted.Refused (sym s.1)))
+      sym (rw s.0 (ap Err (sym s.1)))
 
 -- ---- question 4
 
@@ -144,18 +141,18 @@ asked-yes false n e = absurd (n e)
 
 -- questions 5 and 9 of a piece of so many symbols
 module _ (s : SequenceEncoder) (bounded : s.seen ≤ limit) (len room : ℕ) where
-  pub due_far : limit - s.seen < len → Due.Refused (by 2 []) ≡ due_at s len room
+  pub due_far : limit - s.seen < len → Err (by 2 []) ≡ due_at s len room
   unfolding due_at
   due_far l = sym (rw (lt-leb (s.seen + len) limit (omega arith)))
 
   near : len ≤ limit - s.seen → in_bounds (s.seen + len) ≡ true
   near l = le-leb (s.seen + len) limit (omega arith)
 
-  pub due_short : len ≤ limit - s.seen → room < (s.bits + len * (packs_by s).width) / 8 → Due.Refused (by 4 []) ≡ due_at s len room
+  pub due_short : len ≤ limit - s.seen → room < (s.bits + len * (packs_by s).width) / 8 → Err (by 4 []) ≡ due_at s len room
   unfolding due_at piece_bit_count
   due_short l m = sym (rw (near l, lt-leb ((s.bits + len * (packs_by s).width) / 8) room m))
 
-  pub due_fine : len ≤ limit - s.seen → (s.bits + len * (packs_by s).width) / 8 ≤ room → Due.Bytes ((s.bits + len * (packs_by s).width) / 8) ≡ due_at s len room
+  pub due_fine : len ≤ limit - s.seen → (s.bits + len * (packs_by s).width) / 8 ≤ room → Ok ((s.bits + len * (packs_by s).width) / 8) ≡ due_at s len room
   unfolding due_at piece_bit_count
   due_fine l m = sym (rw (near l, le-leb ((s.bits + len * (packs_by s).width) / 8) room m))
 
@@ -164,31 +161,31 @@ module _ (s : SequenceEncoder) (piece : List ℕ) where
   total = s.bits + length piece * (packs_by s).width
 
   module _ (room : ℕ) where
-    pub update_unsound : sound_encoder s ≡ false → Updated.Refused (by 1 []) s ≡ update_at s piece room
+    pub update_unsound : sound_encoder s ≡ false → Err (by 1 [] keeping s) ≡ update_at s piece room
     unfolding update_at
     update_unsound e = sym (rw e)
 
     -- the other questions, in two steps
-    abbrev by_due : Due → Updated
-    by_due (Due.Bytes count) = Updated.Wrote count (updated s piece)
-    by_due (Due.Refused q) = Updated.Refused q s
+    abbrev by_due : Result ℕ Refusal → Result Updated (Refused SequenceEncoder)
+    by_due (Ok count) = Ok (record { count = count; next = updated s piece })
+    by_due (Err q) = Err (q keeping s)
 
-    pub update_due : sound_encoder s ≡ true → (d : Due) → d ≡ due_at s (length piece) room → by_due d ≡ update_at s piece room
+    pub update_due : sound_encoder s ≡ true → (d : Result ℕ Refusal) → d ≡ due_at s (length piece) room → by_due d ≡ update_at s piece room
     unfolding update_at due_at
     update_due e d h = ap by_due h ∙ go (in_bounds (s.seen + length piece)) (leb (piece_bit_count s (length piece) / 8) room) ∙ sym (rw e)
       where
         go : (b c : Bool)
-            → by_due (ask b else Due.Refused (by 2 []) then ask c else Due.Refused (by 4 []) then Due.Bytes (piece_bit_count s (length piece) / 8))
-            ≡ (ask b else Updated.Refused (by 2 []) s then ask c else Updated.Refused (by 4 []) s then Updated.Wrote (piece_bit_count s (length piece) / 8) (updated s piece))
+            → by_due (ask b else Err (by 2 []) then ask c else Err (by 4 []) then Ok (piece_bit_count s (length piece) / 8))
+            ≡ (ask b else Err (by 2 [] keeping s) then ask c else Err (by 4 [] keeping s) then Ok (record { count = piece_bit_count s (length piece) / 8; next = updated s piece }))
         go false c = refl
         go true false = refl
         go true true = refl
 
-    pub update-refused : sound_encoder s ≡ true → (d : Due) → d ≡ due_at s (length piece) room → (q : Refusal) → d ≡ Due.Refused q → Updated.Refused q s ≡ update_at s piece room
+    pub update-refused : sound_encoder s ≡ true → (d : Result ℕ Refusal) → d ≡ due_at s (length piece) room → (q : Refusal) → d ≡ Err q → Err (q keeping s) ≡ update_at s piece room
     update-refused e d h q f = ap by_due (sym f) ∙ update_due e d h
 
-    pub update-fine : sound_encoder s ≡ true → (d : Due) → d ≡ due_at s (length piece) room → (count : ℕ) → d ≡ Due.Bytes count
-        → Updated.Wrote count (updated s piece) ≡ update_at s piece room
+    pub update-fine : sound_encoder s ≡ true → (d : Result ℕ Refusal) → d ≡ due_at s (length piece) room → (count : ℕ) → d ≡ Ok count
+        → Ok (record { count = count; next = updated s piece }) ≡ update_at s piece room
     update-fine e d h count f = ap by_due (sym f) ∙ update_due e d h
 
     -- an accepted piece: what was asked, and the count
@@ -198,10 +195,10 @@ module _ (s : SequenceEncoder) (piece : List ℕ) where
       pub fits : (s.bits + length piece * (packs_by s).width) / 8 ≤ room
       pub counted : count ≡ (s.bits + length piece * (packs_by s).width) / 8
 
-    pub update-accepted : (count : ℕ) (next : SequenceEncoder) → update_at s piece room ≡ Updated.Wrote count next → Accepted count
+    pub update-accepted : (count : ℕ) (next : SequenceEncoder) → update_at s piece room ≡ Ok (record { count = count; next = next }) → Accepted count
     unfolding update_at piece_bit_count
     update-accepted count next e =
-        let no : (q : Refusal) → Updated.Refused q s ≡ Updated.Wrote count next → ⊥ = λ q z. let o : ◌≡◌ {A = ℕ} 0 1 = cc in omega arith in
+        let no : (q : Refusal) → ◌≡◌ {A = Result Updated (Refused SequenceEncoder)} (Err (q keeping s)) (Ok (record { count = count; next = next })) → ⊥ = λ q z. let o : ◌≡◌ {A = ℕ} 0 1 = cc in omega arith in
         let y₁ = asked-yes (sound_encoder s) (no (by 1 [])) e in
         let y₂ = asked-yes (in_bounds (s.seen + length piece)) (no (by 2 [])) y₁.1 in
         let y₃ = asked-yes (leb (total / 8) room) (no (by 4 [])) y₂.1 in
@@ -210,8 +207,16 @@ module _ (s : SequenceEncoder) (piece : List ℕ) where
           is_sound = y₁.0;
           bounded = leb-true (s.seen + length piece) limit y₂.0;
           fits = leb-true (total / 8) room y₃.0;
-          counted = cc;
+          counted = ap count_of (sym wrote);
         }
+      where
+        count_of : Result Updated (Refused SequenceEncoder) → ℕ
+        count_of (Ok u) = u.count
+        count_of (Err e) = 0
+
+  -- what is asked of an accepted piece, by the count that is due
+  pub met : (room : ℕ) → sound_encoder s ≡ true → (d : Result ℕ Refusal) → d ≡ due_at s (length piece) room → (count : ℕ) → d ≡ Ok count → Accepted room count
+  met room sure d due count is = update-accepted room count (updated s piece) (sym (update-fine room sure d due count is))
 
   -- p bits pend in a sound state
   pub pends : sound_encoder s ≡ true → s.seen + length piece ≤ limit → Pends (packs_by s).width s.bits s.pending (length piece)
@@ -240,11 +245,11 @@ module _ (s : SequenceEncoder) (piece : List ℕ) where
       rw (e, value, g)
 
   module _ (memory : List ℕ) where
-    pub update_kept : (q : Refusal) (next : SequenceEncoder) → update_at s piece (length memory) ≡ Updated.Refused q next → memory ≡ update_memory s piece memory
+    pub update_kept : (e : Refused SequenceEncoder) → update_at s piece (length memory) ≡ Err e → memory ≡ update_memory s piece memory
     unfolding update_memory update_writes
-    update_kept q next e = sym (ap (λ (r : Updated). front (update_writes s piece r) memory) e)
+    update_kept refused e = sym (ap (λ (r : Result Updated (Refused SequenceEncoder)). front (update_writes s piece r) memory) e)
 
-    pub update-wrote : (count : ℕ) (next : SequenceEncoder) → update_at s piece (length memory) ≡ Updated.Wrote count next → (out : List ℕ)
+    pub update-wrote : (count : ℕ) (next : SequenceEncoder) → update_at s piece (length memory) ≡ Ok (record { count = count; next = next }) → (out : List ℕ)
         → out ≡ ran (packs_by s).width s.bits s.pending (digits_of (packs_by s) piece) memory → out ≡ update_memory s piece memory
     unfolding update_memory update_writes piece_bits
     update-wrote count next e out w =
@@ -253,32 +258,32 @@ module _ (s : SequenceEncoder) (piece : List ℕ) where
         ap (λ (n : ℕ). (s.bits + n * A.width) / 8) (length-map piece (digit_of A)) ∙ sym (update-accepted (length memory) count next e).counted in
         w
         ∙ ap (λ (n : ℕ). front (cut 8 (piece_bits s piece) 0 n) memory) same
-        ∙ sym (ap (λ (r : Updated). front (update_writes s piece r) memory) e)
+        ∙ sym (ap (λ (r : Result Updated (Refused SequenceEncoder)). front (update_writes s piece r) memory) e)
 
 -- ---- `finalize`
 
 module _ (s : SequenceEncoder) where
   module _ (room : ℕ) where
-    pub finalize_unsound : sound_encoder s ≡ false → Finalized.Refused (by 1 []) s ≡ finalize_at s room
+    pub finalize_unsound : sound_encoder s ≡ false → Err (by 1 [] keeping s) ≡ finalize_at s room
     unfolding finalize_at
     finalize_unsound e = sym (rw e)
 
     -- past the first question
-    after_sound : sound_encoder s ≡ true → (f : First) → s.bad.first ≡ f
-        → finalize_at s room ≡ unless_bad f (λ position byte. Finalized.Refused (by 5 (position ∷ byte ∷ s.bad.count ∷ [])) s) (finalize_rest s room)
+    after_sound : sound_encoder s ≡ true → (f : Option Stranger) → s.bad.first ≡ f
+        → finalize_at s room ≡ unless_bad f (λ position byte. Err (by 5 (position ∷ byte ∷ s.bad.count ∷ []) keeping s)) (finalize_rest s room)
     unfolding finalize_at
     after_sound e f q =
-        rw e (ap (λ (x : First). unless_bad x (λ position byte. Finalized.Refused (by 5 (position ∷ byte ∷ s.bad.count ∷ [])) s) (finalize_rest s room)) q)
+        rw e (ap (λ (x : Option Stranger). unless_bad x (λ position byte. Err (by 5 (position ∷ byte ∷ s.bad.count ∷ []) keeping s)) (finalize_rest s room)) q)
 
-    pub finalize_bad : sound_encoder s ≡ true → (position byte : ℕ) → s.bad.first ≡ First.At position byte
-        → Finalized.Refused (by 5 (position ∷ byte ∷ s.bad.count ∷ [])) s ≡ finalize_at s room
-    finalize_bad e position byte q = sym (after_sound e (First.At position byte) q)
+    pub finalize_bad : sound_encoder s ≡ true → (first : Stranger) → s.bad.first ≡ Some first
+        → Err (by 5 (first.position ∷ first.byte ∷ s.bad.count ∷ []) keeping s) ≡ finalize_at s room
+    finalize_bad e first q = sym (after_sound e (Some first) q)
 
-    pub finalize_short : sound_encoder s ≡ true → s.bad.first ≡ First.Nothing → room < bytes_for s.bits → Finalized.Refused (by 4 []) s ≡ finalize_at s room
-    finalize_short e q l = sym (after_sound e First.Nothing q ∙ rw (lt-leb (bytes_for s.bits) room l))
+    pub finalize_short : sound_encoder s ≡ true → s.bad.first ≡ None → room < bytes_for s.bits → Err (by 4 [] keeping s) ≡ finalize_at s room
+    finalize_short e q l = sym (after_sound e None q ∙ rw (lt-leb (bytes_for s.bits) room l))
 
-    pub finalize-fine : sound_encoder s ≡ true → s.bad.first ≡ First.Nothing → bytes_for s.bits ≤ room → Finalized.Wrote (bytes_for s.bits) ≡ finalize_at s room
-    finalize-fine e q l = sym (after_sound e First.Nothing q ∙ rw (le-leb (bytes_for s.bits) room l))
+    pub finalize-fine : sound_encoder s ≡ true → s.bad.first ≡ None → bytes_for s.bits ≤ room → Ok (bytes_for s.bits) ≡ finalize_at s room
+    finalize-fine e q l = sym (after_sound e None q ∙ rw (le-leb (bytes_for s.bits) room l))
 
     -- an accepted call: what was asked, and the count
     pub record Ended (count : ℕ) : Type 0 where
@@ -286,7 +291,7 @@ module _ (s : SequenceEncoder) where
       pub fits : bytes_for s.bits ≤ room
       pub counted : count ≡ bytes_for s.bits
 
-    pub finalize-accepted : (count : ℕ) → finalize_at s room ≡ Finalized.Wrote count → Ended count
+    pub finalize-accepted : (count : ℕ) → finalize_at s room ≡ Ok count → Ended count
     unfolding finalize_at
     finalize-accepted count e =
         let y₁ = asked-yes (sound_encoder s) (no (by 1 [])) e in
@@ -294,28 +299,28 @@ module _ (s : SequenceEncoder) where
         let wrote = y₂.1 in
         record { is_sound = y₁.0; fits = leb-true (bytes_for s.bits) room y₂.0; counted = cc }
       where
-        no : (q : Refusal) → Finalized.Refused q s ≡ Finalized.Wrote count → ⊥
+        no : (q : Refusal) → Err (q keeping s) ≡ Ok count → ⊥
         no q z = let o : ◌≡◌ {A = ℕ} 0 1 = cc in omega arith
 
-        member : (f : First) →
-            unless_bad f (λ position byte. Finalized.Refused (by 5 (position ∷ byte ∷ s.bad.count ∷ [])) s) (finalize_rest s room) ≡ Finalized.Wrote count
-            → finalize_rest s room ≡ Finalized.Wrote count
-        member First.Nothing h = h
-        member (First.At position byte) h = absurd (no (by 5 (position ∷ byte ∷ s.bad.count ∷ [])) h)
+        member : (f : Option Stranger) →
+            unless_bad f (λ position byte. Err (by 5 (position ∷ byte ∷ s.bad.count ∷ []) keeping s)) (finalize_rest s room) ≡ Ok count
+            → finalize_rest s room ≡ Ok count
+        member None h = h
+        member (Some first) h = absurd (no (by 5 (first.position ∷ first.byte ∷ s.bad.count ∷ [])) h)
 
   module _ (memory : List ℕ) where
-    pub finalize_kept : (q : Refusal) (next : SequenceEncoder) → finalize_at s (length memory) ≡ Finalized.Refused q next → memory ≡ finalize_memory s memory
+    pub finalize_kept : (e : Refused SequenceEncoder) → finalize_at s (length memory) ≡ Err e → memory ≡ finalize_memory s memory
     unfolding finalize_memory finalize_writes
-    finalize_kept q next e = sym (ap (λ (r : Finalized). front (finalize_writes s r) memory) e)
+    finalize_kept refused e = sym (ap (λ (r : Result ℕ (Refused SequenceEncoder)). front (finalize_writes s r) memory) e)
 
-    module _ (count : ℕ) (answer : finalize_at s (length memory) ≡ Finalized.Wrote count) where
+    module _ (count : ℕ) (answer : finalize_at s (length memory) ≡ Ok count) where
       accepted : Ended (length memory) count
       accepted = finalize-accepted (length memory) count answer
 
       -- nothing pends
       pub finalize_none : count ≡ 0 → memory ≡ finalize_memory s memory
       unfolding finalize_memory finalize_writes cut tabulate
-      finalize_none z = sym (ap (λ (r : Finalized). front (finalize_writes s r) memory) (answer ∙ ap Finalized.Wrote z))
+      finalize_none z = sym (ap (λ (r : Result ℕ (Refused SequenceEncoder)). front (finalize_writes s r) memory) (answer ∙ ap Ok z))
 
       -- a byte is due
       pub finalize_last : (count ≡ 0 → ⊥) → (0 < length memory) × ((s.bits < 8) × (s.pending < 2 ^ s.bits))
@@ -344,7 +349,7 @@ module _ (s : SequenceEncoder) where
           ap (λ (x : ℕ). set memory x v) (sym w)
           ∙ last
           ∙ ap (λ (x : ℕ). front (cut 8 hand 0 x) memory) all
-          ∙ sym (ap (λ (r : Finalized). front (finalize_writes s r) memory) answer)
+          ∙ sym (ap (λ (r : Result ℕ (Refused SequenceEncoder)). front (finalize_writes s r) memory) answer)
 
 -- ---- `encode_sequence`
 
@@ -353,87 +358,78 @@ module _ (A : Coding) (text : List ℕ) (room : ℕ) where
   abbrev due : ℕ
   due = bytes_for (length text * A.width)
 
-  pub encode_long : limit < length text → Encoded.Refused (by 2 []) ≡ encode_by A text room
+  pub encode_long : limit < length text → Err (by 2 []) ≡ encode_by A text room
   encode_long h = sym (rw (lt-leb (length text) limit h))
 
-  pub encode_short : length text ≤ limit → room < bytes_for (length text * A.width) → Encoded.Refused (by 4 []) ≡ encode_by A text room
+  pub encode_short : length text ≤ limit → room < bytes_for (length text * A.width) → Err (by 4 []) ≡ encode_by A text room
   encode_short h l = sym (rw (le-leb (length text) limit h, lt-leb due room l))
 
-  pub encode_first : length text ≤ limit → bytes_for (length text * A.width) ≤ room → (f : First) → first_from A 0 text ≡ f
-      → unless_bad f (λ position byte. Encoded.Refused (by 5 (position ∷ byte ∷ bad_in A text ∷ []))) (Encoded.Wrote (bytes_for (length text * A.width)))
+  pub encode_first : length text ≤ limit → bytes_for (length text * A.width) ≤ room → (f : Option Stranger) → first_from A 0 text ≡ f
+      → unless_bad f (λ position byte. Err (by 5 (position ∷ byte ∷ bad_in A text ∷ []))) (Ok (bytes_for (length text * A.width)))
       ≡ encode_by A text room
   encode_first h l f e = sym (rw (le-leb (length text) limit h, le-leb due room l, e))
 
   -- an accepted text: what was asked
-  pub encode-accepted : (count : ℕ) → encode_by A text room ≡ Encoded.Wrote count
+  pub encode-accepted : (count : ℕ) → encode_by A text room ≡ Ok count
       → (length text ≤ limit) × ((bytes_for (length text * A.width) ≤ room) × ((j : ℕ) → j < length text → A.member (at text j) ≡ true))
   encode-accepted count e =
-      let no : (q : Refusal) → Encoded.Refused q ≡ Encoded.Wrote count → ⊥ = λ q z. let o : ◌≡◌ {A = ℕ} 0 1 = cc in omega arith in
+      let no : (q : Refusal) → Err q ≡ Ok count → ⊥ = λ q z. let o : ◌≡◌ {A = ℕ} 0 1 = cc in omega arith in
       let y₁ = asked-yes (in_bounds (length text)) (no (by 2 [])) e in
       let y₂ = asked-yes (leb due room) (no (by 4 [])) y₁.1 in
       (leb-true (length text) limit y₁.0, (leb-true due room y₂.0, none_first A 0 text (none (first_from A 0 text) y₂.1)))
     where
-      none : (f : First)
-          → unless_bad f (λ position byte. Encoded.Refused (by 5 (position ∷ byte ∷ bad_in A text ∷ []))) (Encoded.Wrote (bytes_for (length text * A.width))) ≡ Encoded.Wrote count
-          → f ≡ First.Nothing
-      none First.Nothing h = refl
-      none (First.At position byte) h = absurd (let o : ◌≡◌ {A = ℕ} 0 1 = cc in omega arith)
+      none : (f : Option Stranger)
+          → unless_bad f (λ position byte. Err (by 5 (position ∷ byte ∷ bad_in A text ∷ []))) (Ok (bytes_for (length text * A.width))) ≡ Ok count
+          → f ≡ None
+      none None h = refl
+      none (Some first) h = absurd (let o : ◌≡◌ {A = ℕ} 0 1 = cc in omega arith)
 
 -- and of its alphabet's number
 module _ (n : ℕ) (fold : Bool) (text memory : List ℕ) where
-  pub encode_unknown : (q : Refusal) → named_at n ≡ Named.Refused q
-      → (Encoded.Refused (by 8 []) ≡ encode_at n fold text (length memory)) × (memory ≡ encode_memory n fold text memory)
+  pub encode_unknown : (q : Refusal) → named_at n ≡ Err q
+      → (Err q ≡ encode_at n fold text (length memory)) × (memory ≡ encode_memory n fold text memory)
   unfolding encode_at encode_writes encode_memory
-  encode_unknown q e = let k = named-refused n q e in (sym (rw k.0), sym (rw k.0))
+  encode_unknown q e = let k = named-refused n q e in (ap Err k.1 ∙ sym (rw k.0), sym (rw k.0))
 
-  module _ (k : AlphabetType) (named : named_at n ≡ Named.Kind k) where
+  module _ (k : AlphabetType) (named : named_at n ≡ Ok k) where
     pub encode_known : encode_at n fold text (length memory) ≡ encode_by (coding_by fold k) text (length memory)
     unfolding encode_at
     encode_known = let s = named_kind n k named in rw s.0 (ap (λ (x : AlphabetType). encode_by (coding_by fold x) text (length memory)) s.1)
 
     -- what an answer leaves in memory
-    after_answer : (r : Encoded) → encode_by (coding_by fold k) text (length memory) ≡ r → encode_memory n fold text memory ≡ front (encode_writes n fold text r) memory
+    after_answer : (r : Result ℕ Refusal) → encode_by (coding_by fold k) text (length memory) ≡ r → encode_memory n fold text memory ≡ front (encode_writes n fold text r) memory
     unfolding encode_memory
-    after_answer r e = ap (λ (x : Encoded). front (encode_writes n fold text x) memory) (encode_known ∙ e)
+    after_answer r e = ap (λ (x : Result ℕ Refusal). front (encode_writes n fold text x) memory) (encode_known ∙ e)
 
-    pub encode_kept : (q : Refusal) → encode_by (coding_by fold k) text (length memory) ≡ Encoded.Refused q → memory ≡ encode_memory n fold text memory
+    pub encode_kept : (q : Refusal) → encode_by (coding_by fold k) text (length memory) ≡ Err q → memory ≡ encode_memory n fold text memory
     unfolding encode_writes
-    encode_kept q e = sym (after_answer (Encoded.Refused q) e)
+    encode_kept q e = sym (after_answer (Err q) e)
 
-    pub encode-wrote : (count : ℕ) → encode_by (coding_by fold k) text (length memory) ≡ Encoded.Wrote count
+    pub encode-wrote : (count : ℕ) → encode_by (coding_by fold k) text (length memory) ≡ Ok count
         → front (packing (coding_by fold k) text) memory ≡ encode_memory n fold text memory
     unfolding encode_writes
     encode-wrote count e =
-        ap (λ (x : AlphabetType). front (packing (coding_by fold x) text) memory) (sym (named_kind n k named).1) ∙ sym (after_answer (Encoded.Wrote count) e)
+        ap (λ (x : AlphabetType). front (packing (coding_by fold x) text) memory) (sym (named_kind n k named).1) ∙ sym (after_answer (Ok count) e)
 
 -- ---- question 4 of the non-members: none, or a first one
 
 module _ (A : Coding) (seen : ℕ) (bad : Bad) where
-  pub sound_none : bad.first ≡ First.Nothing → eqb bad.count 0 ≡ sound_bad A seen bad
-  sound_none e = sym (ap (λ (f : First). sound_first A seen f && sound_count seen f bad.count) e)
+  pub sound_none : bad.first ≡ None → eqb bad.count 0 ≡ sound_bad A seen bad
+  sound_none e = sym (ap (λ (f : Option Stranger). sound_first A seen f && sound_count seen f bad.count) e)
 
-  module _ (position byte : ℕ) (at : bad.first ≡ First.At position byte) where
-    pub sound_at_member : A.member byte ≡ true → false ≡ sound_bad A seen bad
-    sound_at_member m = sym (ap (λ (f : First). sound_first A seen f && sound_count seen f bad.count) at ∙ rw m)
+  pub sound_at_member : (first : Stranger) → bad.first ≡ Some first → A.member first.byte ≡ true → false ≡ sound_bad A seen bad
+  sound_at_member first e m = sym (ap (λ (f : Option Stranger). sound_first A seen f && sound_count seen f bad.count) e ∙ rw m)
 
-    pub sound_at_unseen : A.member byte ≡ false → seen ≤ position → false ≡ sound_bad A seen bad
-    sound_at_unseen m h = sym (ap (λ (f : First). sound_first A seen f && sound_count seen f bad.count) at ∙ rw (m, le-ltb position seen h))
-
-    pub sound_at_count : A.member byte ≡ false → position < seen → ltb 0 bad.count && leb bad.count (seen - position) ≡ sound_bad A seen bad
-    sound_at_count m h = sym (ap (λ (f : First). sound_first A seen f && sound_count seen f bad.count) at ∙ rw (m, lt-ltb position seen h))
-
-    pub sound_at_zero : A.member byte ≡ false → position < seen → bad.count ≡ 0 → false ≡ sound_bad A seen bad
-    sound_at_zero m h z = sym (rw (le-ltb 0 bad.count (omega arith))) ∙ sound_at_count m h
-
-    pub sound_at_some : A.member byte ≡ false → position < seen → (bad.count ≡ 0 → ⊥) → leb bad.count (seen - position) ≡ sound_bad A seen bad
-    sound_at_some m h z = sym (rw (lt-ltb 0 bad.count (omega arith))) ∙ sound_at_count m h
+  pub sound_at_stranger : (first : Stranger) → bad.first ≡ Some first → A.member first.byte ≡ false
+      → (ltb first.position seen && (ltb 0 bad.count && leb bad.count (seen - first.position))) ≡ sound_bad A seen bad
+  sound_at_stranger first e m = sym (ap (λ (f : Option Stranger). sound_first A seen f && sound_count seen f bad.count) e ∙ rw m)
 
   -- no more of them than symbols
   pub few_bad : sound_bad A seen bad ≡ true → bad.count ≤ seen
   few_bad = go bad.first
     where
-      go : (f : First) → sound_first A seen f && sound_count seen f bad.count ≡ true → bad.count ≤ seen
-      go First.Nothing e = let z = eqb-true bad.count 0 e in omega arith
-      go (First.At position byte) e =
-          let b = both_true (not (A.member byte) && ltb position seen) (ltb 0 bad.count && leb bad.count (seen - position)) e in
-          omega (arith, leb-true bad.count (seen - position) (both_true (ltb 0 bad.count) (leb bad.count (seen - position)) b.1).1)
+      go : (f : Option Stranger) → sound_first A seen f && sound_count seen f bad.count ≡ true → bad.count ≤ seen
+      go None e = let z = eqb-true bad.count 0 e in omega arith
+      go (Some first) e =
+          let b = both_true (not (A.member first.byte) && ltb first.position seen) (ltb 0 bad.count && leb bad.count (seen - first.position)) e in
+          omega (arith, leb-true bad.count (seen - first.position) (both_true (ltb 0 bad.count) (leb bad.count (seen - first.position)) b.1).1)

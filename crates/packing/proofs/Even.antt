@@ -1,5 +1,5 @@
 -- The widths of packed alphabets, and the symbols that come first where bits pend.
-use mathlib.Core.Path.{◌≡◌, sym, ap, ap₂, ◌∙◌}
+use mathlib.Core.Path.{◌≡◌, refl, sym, ap, ap₂, ◌∙◌}
 use mathlib.Core.Bool.{Bool}
 use mathlib.Core.List.{List, [], ◌++◌, map, append-nil}
 use mathlib.Core.Logic.{◌⊎◌, inl, inr}
@@ -18,7 +18,7 @@ use Rattle.alphabet.specs.declared.kind.AlphabetType.TheVariants.{Dna2bit, Dna3b
 use Rattle.alphabet.specs.Symbols.{Coding, coding_by}
 use Rattle.alphabet.proofs.Laws.{widths}
 use Rattle.members.specs.Members.{Passed}
-use Rattle.members.proofs.Passing.{ascii_passed, unknown_passed}
+use Rattle.members.proofs.Passing.{plain_passed}
 use Rattle.packing.specs.Encode.{digits_of}
 use Rattle.packing.specs.Run.{Pends, Ready, Narrow, ran}
 use Rattle.packing.proofs.Behind.{part, part_is, ready_behind, ran_head, ran_behind, nothing_held}
@@ -40,8 +40,8 @@ wide_passed fold Dna2bit text bytes h = absurd (omega (arith, widths.of_dna2bit)
 wide_passed fold Dna3bit text bytes h = absurd (omega (arith, widths.of_dna3bit))
 wide_passed fold DnaIupac text bytes h = absurd (omega (arith, widths.of_dna_iupac))
 wide_passed fold Protein text bytes h = absurd (omega (arith, widths.of_protein))
-wide_passed fold Ascii text bytes h = ascii_passed fold text bytes
-wide_passed fold Unknown text bytes h = unknown_passed fold text bytes
+wide_passed fold Ascii text bytes h = plain_passed fold Ascii text bytes (inl refl)
+wide_passed fold Unknown text bytes h = plain_passed fold Unknown text bytes (inr refl)
 
 -- ---- the symbols before the next place that eight divides
 
@@ -84,9 +84,9 @@ module _ (b seen a : ℕ) (g : ℕ → ℕ) (text memory : List ℕ) (ready : Re
   head_room = let up : h * b ≤ length text * b = mul-le-mul_right b within in omega (arith, up, ready.fits)
 
   -- they are fewer
-  pub head_pends : Ready b (seen * b % 8) a (length (take (h - 0) text)) (length memory)
+  pub head_pends : Ready b (seen * b % 8) a (length (take h text)) (length memory)
   head_pends =
-      let count : length (take (h - 0) text) ≡ h = length-take-le (h - 0) text (omega arith) ∙ (let z : h - 0 ≡ h = omega arith in z) in
+      let count : length (take h text) ≡ h = length-take-le h text (omega arith) in
       let old : Pends b p a (length text) = ready.pends in
       rw count
       (record {
@@ -117,7 +117,7 @@ module _ (b seen a : ℕ) (g : ℕ → ℕ) (text memory : List ℕ) (ready : Re
       go (inr even) = ready_behind b p a g text memory ready h w 0 0 within (omega arith) (place even) (held even) out kept
 
   -- so both runs are one over the text
-  pub head_ran : (out ys : List ℕ) → out ≡ ran b (seen * b % 8) a (map g (take (h - 0) text)) memory
+  pub head_ran : (out ys : List ℕ) → out ≡ ran b (seen * b % 8) a (map g (take h text)) memory
       → ys ≡ ran b 0 0 (map g (part text h)) (part out ((seen * b % 8 + h * b) / 8))
       → take ((seen * b % 8 + h * b) / 8) out ++ (ys ++ drop (length out - (seen * b % 8 + h * b) / 8) (drop ((seen * b % 8 + h * b) / 8) out))
       ≡ ran b (seen * b % 8) a (map g text) memory
@@ -125,7 +125,7 @@ module _ (b seen a : ℕ) (g : ℕ → ℕ) (text memory : List ℕ) (ready : Re
   head_ran out ys wrote rest = go (head_ends b seen (length text) h first)
     where
       start : out ≡ ran b p a (map g (take h text)) memory
-      start = wrote ∙ ap (λ (n : ℕ). ran b p a (map g (take n text)) memory) (let z : h - 0 ≡ h = omega arith in z)
+      start = wrote
 
       go : (h ≡ length text) ⊎ ((seen * b % 8 + h * b) % 8 ≡ 0)
           → take w out ++ (ys ++ drop (length out - w) (drop w out)) ≡ ran b p a (map g text) memory

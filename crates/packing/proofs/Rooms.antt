@@ -15,6 +15,9 @@ use Rattle.bits.proofs.Appended.{length_cut}
 use Rattle.alphabet.specs.Questions.{ask◌else◌then◌, by, limit, in_bounds, number_in}
 use Rattle.alphabet.proofs.Laws.{lawful}
 use Rattle.packing.specs.declared.encoder.SequenceEncoder.{SequenceEncoder}
+use Rattle.std.proofs.Common.{Result, Ok, Err}
+use Rattle.alphabet.specs.declared.refusal.Refused.{Refused}
+use Rattle.alphabet.specs.Refusing.{◌keeping◌}
 use Rattle.packing.specs.declared.encoder.Updated.{Updated}
 use Rattle.packing.specs.Encode.{packs_by, sound_encoder, piece_bits, piece_bit_count, updated, update_at, update_writes, update_memory}
 use Rattle.packing.specs.Answers.{updated_reply}
@@ -26,19 +29,19 @@ module _ (s : SequenceEncoder) (piece : List ℕ) where
 
   -- past the questions of state and symbols the length alone decides
   by_length : sound_encoder s ≡ true → in_bounds (s.seen + length piece) ≡ true → (room : ℕ)
-      → update_at s piece room ≡ (ask leb due room else Updated.Refused (by 4 []) s then Updated.Wrote due (updated s piece))
+      → update_at s piece room ≡ (ask leb due room else Err (by 4 [] keeping s) then Ok (record { count = due; next = updated s piece }))
   unfolding update_at piece_bit_count
   by_length e near room = rw (e, near)
 
   -- a piece accepted with one length is accepted with every length that has its count, and with none that is shorter
-  pub accepted_at : (room count : ℕ) (next : SequenceEncoder) → update_at s piece room ≡ Updated.Wrote count next → (other : ℕ)
-      → update_at s piece other ≡ (ask leb count other else Updated.Refused (by 4 []) s then Updated.Wrote count next)
+  pub accepted_at : (room count : ℕ) (next : SequenceEncoder) → update_at s piece room ≡ Ok (record { count = count; next = next }) → (other : ℕ)
+      → update_at s piece other ≡ (ask leb count other else Err (by 4 [] keeping s) then Ok (record { count = count; next = next }))
   accepted_at room count next e other =
       let h = update-accepted s piece room count next e in
       let near : in_bounds (s.seen + length piece) ≡ true = le-leb (s.seen + length piece) limit h.bounded in
-      let same : Updated.Wrote due (updated s piece) ≡ Updated.Wrote count next = sym (by_length h.is_sound near room ∙ rw (le-leb due room h.fits)) ∙ e in
+      let same : ◌≡◌ {A = Result Updated (Refused SequenceEncoder)} (Ok (record { count = due; next = updated s piece })) (Ok (record { count = count; next = next })) = sym (by_length h.is_sound near room ∙ rw (le-leb due room h.fits)) ∙ e in
       by_length h.is_sound near other
-      ∙ ap₂ (λ (n : ℕ) (wrote : Updated). ask leb n other else Updated.Refused (by 4 []) s then wrote) (sym h.counted) same
+      ∙ ap₂ (λ (n : ℕ) (wrote : Result Updated (Refused SequenceEncoder)). ask leb n other else Err (by 4 [] keeping s) then wrote) (sym h.counted) same
 
   -- no piece completes more than 2^60 bytes
   due_few : sound_encoder s ≡ true → s.seen + length piece ≤ limit → due ≤ limit
@@ -52,25 +55,25 @@ module _ (s : SequenceEncoder) (piece : List ℕ) where
     where
       go : (b : Bool) → sound_encoder s ≡ b → (c : Bool) → in_bounds (s.seen + length piece) ≡ c
           → number_in (updated_reply
-          (ask b else Updated.Refused (by 1 []) s then
-          ask c else Updated.Refused (by 2 []) s then
-          ask leb due room else Updated.Refused (by 4 []) s then
-          Updated.Wrote due (updated s piece))) ≡ 4 → ⊥
+          (ask b else Err (by 1 [] keeping s) then
+          ask c else Err (by 2 [] keeping s) then
+          ask leb due room else Err (by 4 [] keeping s) then
+          Ok (record { count = due; next = updated s piece }))) ≡ 4 → ⊥
       go false e c f n = omega (arith, n)
       go true e false f n = omega (arith, n)
       go true e true f n =
           let fits = le-leb due room (omega (arith, due_few e (leb-true (s.seen + length piece) limit f), l)) in
-          let told : Bool → ℕ = λ b. number_in (updated_reply (ask b else Updated.Refused (by 4 []) s then Updated.Wrote due (updated s piece))) in
+          let told : Bool → ℕ = λ b. number_in (updated_reply (ask b else Err (by 4 [] keeping s) then Ok (record { count = due; next = updated s piece }))) in
           let none : ◌≡◌ {A = ℕ} 0 4 = sym (ap told fits) ∙ n in
           omega (arith, none)
 
   -- the bytes behind those that are counted hold what they held
-  pub kept_behind : (memory : List ℕ) (count : ℕ) (next : SequenceEncoder) → update_at s piece (length memory) ≡ Updated.Wrote count next
+  pub kept_behind : (memory : List ℕ) (count : ℕ) (next : SequenceEncoder) → update_at s piece (length memory) ≡ Ok (record { count = count; next = next })
       → drop count (update_memory s piece memory) ≡ drop count memory
   unfolding update_memory update_writes
   kept_behind memory count next e =
       let bytes : List ℕ = cut 8 (piece_bits s piece) 0 count in
       let long : length bytes ≡ count = length_cut 8 (piece_bits s piece) 0 count in
-      ap (λ (r : Updated). drop count (front (update_writes s piece r) memory)) e
+      ap (λ (r : Result Updated (Refused SequenceEncoder)). drop count (front (update_writes s piece r) memory)) e
       ∙ drop_at bytes (drop (length bytes) memory) count long
       ∙ ap (λ (n : ℕ). drop n memory) long

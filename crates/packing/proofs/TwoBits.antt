@@ -1,13 +1,15 @@
 -- Dna2bit packed by arithmetic: a byte's digit, four digits as one byte, 64 digits as 16, and all whole blocks of a text.
-use mathlib.Core.Path.{◌≡◌, refl, sym, ap, ap₂, ◌∙◌, subst}
+use mathlib.Core.Path.{◌≡◌, sym, ap, ap₂, ◌∙◌, subst}
 use mathlib.Core.Bool.{Bool, true, cond, ◌||◌}
-use mathlib.Core.List.{List, map}
+use mathlib.Core.List.{List, map, ◌++◌}
+use borrow.Rule.Slice.PartMut.{put_mid, Post-is}
+use Rattle.bits.proofs.Appended.{length_cut}
 use Prim.Native.Nat.{ℕ, ◌+◌, ◌-◌, ◌*◌, ◌/◌, ◌%◌, ◌^◌, ◌≤◌, ◌<◌}
 use native.Mathlib.Nat.{zero-add, add-zero, add_comm, mod-eq_of_lt, lt_of_le_of_lt, mul-add-div_right, mul-add-mod_self_right}
 use native.Mathlib.Omega.{arith}
 use lib.Bits.{bit_and, and_le_l}
 use lib.Dec.{T, eqb, eqb→eq, lit<}
-use lib.ListN.{length, take, length-map, get_or-map}
+use lib.ListN.{length, take, drop, length-map, get_or-map}
 use lib.Pow.{high, low}
 use lib.Seq.{get_or-take, length-take-le}
 use Rattle.bits.specs.Tables.{tabulate, at, Bytes}
@@ -15,7 +17,7 @@ use Rattle.bits.specs.Streams.{bit_at, word, cut}
 use Rattle.bits.specs.Packing.{at_hand}
 use Rattle.bits.specs.Memory.{front, put_at}
 use Rattle.bits.proofs.Computed.{passes, below}
-use Rattle.bits.proofs.Tabulated.{length-tabulate, tabulate_ext, get_d_tabulate, get_or_within, is_tabulate}
+use Rattle.bits.proofs.Tabulated.{tabulate_ext, get_d_tabulate, get_or_within}
 use Rattle.bits.proofs.Words.{word-add, word_ext, word-whole, bit_cong}
 use Rattle.bits.proofs.Hand.{hand-plain}
 use Rattle.bits.proofs.Put.{Filled, none_filled, more_filled, put_front}
@@ -167,14 +169,15 @@ bytes_of_block f i =
     let place : i * 2 + k ≡ i * 2 + t * 8 + u = omega arith in
     bit_cong 2 (at (tabulate 64 g)) g k (get_d_tabulate 64 g (k / 2) 0 within) ∙ bit_from 2 (lit< tt) f i k ∙ ap (bit_at 2 f) place))
 
--- so the bytes that are made of 64 codes and stored one by one are those of the digits
+-- so the bytes that are made of 64 codes and stored in the place of 16 are those of the digits
 pub block_stored : (f : ℕ → ℕ) (i : ℕ) (codes bytes : List ℕ) → codes ≡ tabulate 64 (λ j. f (i + j)) → bytes ≡ cut 8 (bit_at 2 (at codes)) 0 16
-    → tabulate 16 (at bytes) ≡ cut 8 (bit_at 2 f) (i * 2) 16
-unfolding cut
-block_stored f i codes bytes e h =
+    → (w : ℕ) (memory : List ℕ) → w + 16 ≤ length memory → put_mid w (w + 16 - w) memory bytes ≡ put_at w (cut 8 (bit_at 2 f) (i * 2) 16) memory
+unfolding put_at
+block_stored f i codes bytes e h w memory room =
     let whole : bytes ≡ cut 8 (bit_at 2 f) (i * 2) 16 = h ∙ ap (λ (l : List ℕ). cut 8 (bit_at 2 (at l)) 0 16) e ∙ bytes_of_block f i in
-    let long : length bytes ≡ 16 = ap length whole ∙ length-tabulate 16 (λ t. word (bit_at 2 f) (i * 2 + t * 8) 8) in
-    sym (is_tabulate 16 (at bytes) 0 bytes long (λ k l. refl)) ∙ whole
+    let long : length bytes ≡ 16 = ap length whole ∙ length_cut 8 (bit_at 2 f) (i * 2) 16 in
+    ap (λ (l : List ℕ). take w memory ++ (bytes ++ l)) (Post-is w (w + 16) memory (omega arith) ∙ ap (λ (n : ℕ). drop (w + n) memory) (sym long))
+    ∙ ap (λ (l : List ℕ). put_at w l memory) whole
 
 -- and a text's digits are codes of two bits
 pub block_small : (fold : Bool) (text codes : List ℕ) (i : ℕ) → Bytes text → codes ≡ tabulate 64 (λ j. digit_of (coding_by fold Dna2bit) (at text (i + j)))

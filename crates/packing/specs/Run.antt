@@ -1,22 +1,22 @@
 -- What the functions within the crate are handed, and what comes of them: of a run over a text, digits of b bits behind bits that pend. The public calls' definitions are
 -- in Encode.antt; this is the contract between them and the loops, which know digits and mostly no alphabet.
-use Rattle.std.specs.Prelude.{ℕ, ◌+◌, ◌*◌, ◌/◌, ◌%◌, ◌^◌, ◌≤◌, ◌<◌, ◌≡◌, Bool, true, List, [], map, leb, length}
+use Rattle.std.specs.Prelude.{ℕ, ◌+◌, ◌*◌, ◌/◌, ◌%◌, ◌^◌, ◌≤◌, ◌<◌, ◌≡◌, Bool, true, List, [], map, leb, length, Result, Ok, Err}
 use Rattle.bits.specs.Tables.{at, tabulate}
 use Rattle.bits.specs.Streams.{word, cut}
 use Rattle.bits.specs.Packing.{at_hand}
 use Rattle.bits.specs.Memory.{front}
+use Rattle.alphabet.specs.declared.refusal.Refusal.{Refusal}
 use Rattle.alphabet.specs.Questions.{ask◌else◌then◌, by, limit, in_bounds}
 use Rattle.alphabet.specs.Symbols.{Coding}
 use Rattle.packing.specs.declared.encoder.SequenceEncoder.{SequenceEncoder}
-use Rattle.packing.specs.declared.encoder.Due.{Due}
 use Rattle.packing.specs.Encode.{digit_of, piece_bit_count}
 
 -- what is asked of a piece of `len` symbols once the state is known to be sound, for `ask` and `update`: the bytes that it completes, or the refusal
-unfoldable pub due_at : SequenceEncoder → ℕ → ℕ → Due
+unfoldable pub due_at : SequenceEncoder → ℕ → ℕ → Result ℕ Refusal
 due_at s len room =
-    ask in_bounds (s.seen + len) else Due.Refused (by 2 []) then
-    ask leb (piece_bit_count s len / 8) room else Due.Refused (by 4 []) then
-    Due.Bytes (piece_bit_count s len / 8)
+    ask in_bounds (s.seen + len) else Err (by 2 []) then
+    ask leb (piece_bit_count s len / 8) room else Err (by 4 []) then
+    Ok (piece_bit_count s len / 8)
 
 -- p bits of value a pend, and n digits of b bits come behind them
 pub record Pends (b p a n : ℕ) : Type 0 where

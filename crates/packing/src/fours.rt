@@ -11,7 +11,7 @@ ghost use Rattle.members.specs.Members.{Members, Passed};
 ghost use Rattle.packing.specs.Encode.{digit_of, digits_of};
 ghost use Rattle.packing.specs.Run.{Clean, ran};
 
-use alphabet::{AlphabetType, telling_bits};
+use alphabet::{AlphabetType, TextAlphabet, telling_bits};
 use members::all_members;
 
 // A base as it is, and G, whose code is all ones, for any other byte. A and C differ in one bit, so that one comparison tells both.
@@ -49,17 +49,10 @@ fn codes_of(fold: bool, clean: bool, text: &[u8], i: usize) -> [u8; 64]
     ensures { result ≡ tabulate 64 (λ j. digit_of (coding_by fold Dna2bit) (at text.now (i + j))) }
 {
     let mut codes = [0u8; 64];
-    for j in 0..64 {
-        codes[j] = digit(fold, clean, text[i + j]);
+    for (j, code) in codes.iter_mut().enumerate() {
+        *code = digit(fold, clean, text[i + j]);
     }
     codes
-}
-
-// A byte as a number of 32 bits.
-fn wide(x: u8) -> u32
-    ensures { (result ≡ x) × (result < 256) }
-{
-    x as u32
 }
 
 // Four neighbouring codes as one number, the first lowest. In a function of its own, which takes the array and the place, the compiler sees that it is one load.
@@ -68,10 +61,10 @@ fn word4(codes: &[u8; 64], i: usize) -> u32
     ensures { result ≡ at codes.now i + at codes.now (i + 1) * 2 ^ 8 + at codes.now (i + 2) * 2 ^ 16
         + at codes.now (i + 3) * 2 ^ 24 }
 {
-    wide(codes[i])
-        + (wide(codes[i + 1]) << 8)
-        + (wide(codes[i + 2]) << 16)
-        + (wide(codes[i + 3]) << 24)
+    u32::from(codes[i])
+        + (u32::from(codes[i + 1]) << 8)
+        + (u32::from(codes[i + 2]) << 16)
+        + (u32::from(codes[i + 3]) << 24)
 }
 
 // Four codes of two bits, each in its byte of a number, the first lowest, as one byte, the first on top: two and two are joined, and then the pairs.
@@ -102,10 +95,7 @@ fn put_64(fold: bool, clean: bool, text: &[u8], i: usize, out: &mut [u8], w: usi
     ensures { out.new ≡ put_at w (cut 8 (bit_at 2 (λ j. digit_of (coding_by fold Dna2bit) (at text.now j))) (i * 2) 16) out.old }
 {
     let codes = codes_of(fold, clean, text, i);
-    let bytes = packed16(&codes);
-    for j in 0..16 {
-        out[w + j] = bytes[j];
-    }
+    out[w..w + 16].copy_from_slice(&packed16(&codes));
 }
 
 // Packs the whole blocks of 64 bytes that a text begins with, and tells how many there are.
@@ -115,10 +105,8 @@ pub fn pack_fours(fold: bool, clean: bool, text: &[u8], out: &mut [u8]) -> usize
         × (out.new ≡ ran 2 0 0 (digits_of (coding_by fold Dna2bit) (take (result * 64) text.now)) out.old) }
 {
     let n = text.len() / 64;
-    let mut b = 0;
-    while b < n {
+    for b in 0..n {
         put_64(fold, clean, text, b * 64, out, b * 16);
-        b += 1;
     }
     n
 }
@@ -129,15 +117,17 @@ pub fn fours_of_members(fold: bool, text: &[u8], out: &mut [u8]) -> usize
     ensures passed { Passed (coding_by fold Dna2bit) text.now (result * 64) }
     ensures wrote { out.new ≡ ran 2 0 0 (digits_of (coding_by fold Dna2bit) (take (result * 64) text.now)) out.old }
 {
+    let alphabet = TextAlphabet {
+        kind: AlphabetType::Dna2bit,
+        fold,
+    };
     let n = text.len() / 64;
-    let mut b = 0;
-    while b < n {
+    for b in 0..n {
         let i = b * 64;
-        if !all_members(AlphabetType::Dna2bit, fold, &text[i..i + 64]) {
+        if !all_members(alphabet, &text[i..i + 64]) {
             return b;
         }
         put_64(fold, true, text, i, out, b * 16);
-        b += 1;
     }
     n
 }

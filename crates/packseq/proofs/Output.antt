@@ -17,7 +17,6 @@ use Rattle.alphabet.specs.Symbols.{Coding, coding}
 use Rattle.alphabet.specs.Names.{number_of, known, kind_of, numbered}
 use Rattle.alphabet.specs.Guess.{guess_of}
 use Rattle.alphabet.specs.declared.kind.AlphabetType.{AlphabetType}
-use Rattle.alphabet.specs.declared.refusal.Refusal.{Refusal}
 use Rattle.alphabet.proofs.Laws.{lawful}
 use Rattle.alphabet.proofs.Calls.{kind_number, known_number, guess-members}
 use Rattle.packing.specs.declared.first.First.{First}
@@ -26,12 +25,12 @@ use Rattle.members.specs.Members.{bad_in}
 use Rattle.packing.specs.Encode.{packing, first_from, unless_bad, encode_at, encode_writes, encode_memory}
 use Rattle.packing.proofs.Search.{first_none}
 use Rattle.packing.proofs.Laid.{packing-length}
-use Rattle.lines.specs.Lines.{line, packed_lines_of, refused_line_of, put_count, put_memory}
-use Rattle.lines.proofs.Parts.{line_length, put_whole}
+use Rattle.lines.specs.Lines.{line, packed_lines_of, put_count, put_memory}
+use Rattle.lines.proofs.Parts.{line_length, whole_count, whole_memory}
 use Rattle.lines.proofs.Made.{refused-most, packed-most}
-use Rattle.packseq.specs.Input.{room, bytes_read}
+use Rattle.packseq.specs.Input.{room}
 use Rattle.packseq.specs.Printed.{longest, most, packed_bytes, answered, printed, output}
-use Rattle.packseq.specs.declared.input.Reading.{Reading}
+use Rattle.std.specs.Prelude.{Option, Some, IsSome, Result, Ok, Err}
 
 -- ---- what an accepted call wrote
 
@@ -142,54 +141,33 @@ printed_fits text = go (leb (length text) longest) refl (encode_at (number_of (g
     go true h (Encoded.Refused q) = omega (arith, refused-most q)
     go false h e = omega (arith, line_length (bytes_of "too long"))
 
--- the lines for each answer
-module _ (kind : AlphabetType) (count : ℕ) (answer : Encoded) (packed : List ℕ) where
-  pub is_packed : (n : ℕ) → answer ≡ Encoded.Wrote n → packed_lines_of kind count (take n packed) ≡ answered kind count answer packed
-  unfolding answered
-  is_packed n w = rw w
+-- lines that fit are put whole
+module _ (wanted made memory : List ℕ) (r : Option ℕ) (e : made ≡ wanted) (fits : length wanted ≤ most) (room : most ≤ length memory)
+    (q : r ≡ put_count made (length memory)) where
+  put_room : length made ≤ length memory
+  put_room = rw e (omega arith)
 
-  pub is_refused : (q : Refusal) → answer ≡ Encoded.Refused q → refused_line_of q ≡ answered kind count answer packed
-  unfolding answered
-  is_refused q w = rw w
+  put_counted : r ≡ Some (length wanted)
+  put_counted = q ∙ whole_count made memory put_room ∙ ap (λ (l : List ℕ). Some (length l)) e
 
-pub wrote_within : (answer : Encoded) (n m : ℕ) → answer ≡ Encoded.Wrote n → packed_bytes answer ≤ m → n ≤ m
-unfolding packed_bytes
-wrote_within answer n m w h = rw w at h
+  pub is_put : IsSome r
+  is_put = rw put_counted refl
 
--- lines that were put are those of an answer
-pub put_same :
-    (made wanted memory out : List ℕ) (r : ℕ) → made ≡ wanted → r ≡ put_count made (length memory) → out ≡ put_memory made memory
-    → (r ≡ put_count wanted (length memory)) × (out ≡ put_memory wanted memory)
-put_same made wanted memory out r e q o = (rw e at q, rw e at o)
+  pub all_put : (out : List ℕ) (n : ℕ) → r ≡ Some n → out ≡ put_memory made memory → (n ≡ length wanted) × (out ≡ front wanted memory)
+  all_put out n some o =
+      let same : Some n ≡ Some (length wanted) = sym some ∙ put_counted in
+      (cc, o ∙ whole_memory made memory put_room ∙ ap (λ (l : List ℕ). front l memory) e)
 
--- so that all of it is put
-pub all-put :
-    (wanted made memory out : List ℕ) (r : ℕ) → length wanted ≤ most → made ≡ wanted → most ≤ length memory
-    → r ≡ put_count made (length memory) → out ≡ put_memory made memory → (r ≡ length wanted) × (out ≡ front wanted memory)
-all-put wanted made memory out r fits e room q o =
-    let w = put_whole made memory (rw e (omega arith)) in
-    (q ∙ w.0 ∙ ap length e, o ∙ w.1 ∙ ap (λ (l : List ℕ). front l memory) e)
+-- ---- what was read
 
--- ---- what reading told
-
-pub output_fits : (reading : Reading) (buffer : List ℕ) → length (output reading buffer) ≤ most
+pub output_fits : {E : Type 0} (read : Result ℕ E) (buffer : List ℕ) → length (output read buffer) ≤ most
 unfolding output bytes_of
-output_fits (Reading.Whole len) buffer = printed_fits (take len buffer)
-output_fits (Reading.More len) buffer = omega (arith, line_length (bytes_of "cannot read"))
-output_fits Reading.Failed buffer = omega (arith, line_length (bytes_of "cannot read"))
+output_fits (Ok len) buffer = printed_fits (take len buffer)
+output_fits (Err failure) buffer = omega (arith, line_length (bytes_of "cannot read"))
 
--- a text that was read to its end
-module _ (reading : Reading) (len : ℕ) where
-  pub whole_within : (m : ℕ) → reading ≡ Reading.Whole len → bytes_read reading ≤ m → len ≤ m
-  unfolding bytes_read
-  whole_within m w h = rw w at h
-
-  pub is_whole :
-      (buffer memory out : List ℕ) (r : ℕ) → reading ≡ Reading.Whole len
-      → r ≡ length (printed (take len buffer)) → out ≡ front (printed (take len buffer)) memory
-      → (r ≡ length (output reading buffer)) × (out ≡ front (output reading buffer) memory)
-  unfolding output
-  is_whole buffer memory out r w q o = (rw w q, rw w o)
+pub not_read : {E : Type 0} (read : Result ℕ E) (failure : E) (buffer : List ℕ) → read ≡ Err failure → line (bytes_of "cannot read") ≡ output read buffer
+unfolding output
+not_read read failure buffer e = rw e refl
 
 -- ---- the two outputs of a text, with the number that document 01 has
 
@@ -214,6 +192,9 @@ unfolding line
 too_long text h = sym (is_long text h)
 
 -- so does a buffer that reading has filled: no longer input passes cut
-pub full_is_too_long : (buffer : List ℕ) → length buffer ≡ room → output (Reading.Whole room) buffer ≡ bytes_of "too long" ++ (10 ∷ [])
+pub full_is_too_long : (E : Type 0) (buffer : List ℕ) → length buffer ≡ room → output {E = E} (Ok room) buffer ≡ bytes_of "too long" ++ (10 ∷ [])
 unfolding output
-full_is_too_long buffer h = too_long (take room buffer) (omega (arith, length-take room buffer, h))
+full_is_too_long E buffer h = too_long (take room buffer) (omega (arith, length-take room buffer, h))
+
+-- for the functions that put the output
+pub ruleset printing = (whole_count, whole_memory, printed_fits, is_long)

@@ -1,5 +1,5 @@
 -- What `packseq` prints. States document 01 on the program.
-use Rattle.std.specs.Prelude.{ℕ, false, List, leb, length, take}
+use Rattle.std.specs.Prelude.{ℕ, false, List, leb, length, take, Result, Ok, Err}
 use Rattle.bits.specs.Tables.{bytes_of}
 use Rattle.alphabet.specs.Questions.{ask◌else◌then◌}
 use Rattle.alphabet.specs.Symbols.{coding}
@@ -9,7 +9,6 @@ use Rattle.alphabet.specs.declared.kind.AlphabetType.{AlphabetType}
 use Rattle.packing.specs.declared.sequence.Encoded.{Encoded}
 use Rattle.packing.specs.Encode.{packing, encode_at}
 use Rattle.lines.specs.Lines.{line, packed_lines_of, refused_line_of}
-use Rattle.packseq.specs.declared.input.Reading.{Reading}
 
 -- the most bytes that are packed
 abbrev pub longest : ℕ
@@ -35,8 +34,7 @@ printed text =
     ask leb (length text) longest else line (bytes_of "too long") then
     answered (guess_of false text) (length text) (encode_at (number_of (guess_of false text)) false text longest) (packing (coding (guess_of false text)) text)
 
--- the whole output for what reading has put into a buffer: a text that was not read to its end is not printed
-unfoldable pub output : Reading → List ℕ → List ℕ
-output (Reading.Whole len) buffer = printed (take len buffer)
-output (Reading.More len) buffer = line (bytes_of "cannot read")
-output Reading.Failed buffer = line (bytes_of "cannot read")
+-- the whole output for what was read into a buffer, so many bytes: a text that was not read to its end is not printed
+unfoldable pub output : {E : Type 0} → Result ℕ E → List ℕ → List ℕ
+output (Ok len) buffer = printed (take len buffer)
+output (Err failure) buffer = line (bytes_of "cannot read")

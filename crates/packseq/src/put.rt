@@ -1,64 +1,62 @@
 // The whole output, put into memory before any of it is written.
-ghost use Rattle.std.specs.Prelude.{◌≡◌, ◌≤◌, length};
+ghost use Rattle.std.specs.Prelude.{◌≡◌, ◌≤◌, length, IfOk};
 ghost use Rattle.bits.specs.Memory.{front};
 ghost use Rattle.lines.specs.Lines.{put_count, put_memory};
-ghost use Rattle.packseq.specs.Input.{bytes_read};
 ghost use Rattle.packseq.specs.Printed.{most, packed_bytes, answered, printed, output};
 
-use crate::input::Reading;
 use alphabet::AlphabetType;
 use coder::Encoded;
+use std::io;
 
 // The most bytes that are packed.
 const LONGEST: usize = 16384;
 
 // Puts the lines for what packing answered, having put the packed bytes at the front of `packed`.
+#[tactic(auto, unfolding(crate::specs::Printed::answered, crate::specs::Printed::packed_bytes))]
 fn put_answer(
     kind: AlphabetType,
     count: u64,
     answer: Encoded,
     packed: &[u8],
     out: &mut [u8],
-) -> usize
+) -> Option<usize>
     requires { packed_bytes answer ≤ length packed.now }
     ensures value { result ≡ put_count (answered kind count answer packed.now) (length out.old) }
     ensures memory { out.new ≡ put_memory (answered kind count answer packed.now) out.old }
 {
-    let Encoded::Wrote(n) = answer else {
-        // an answer is one of the two, so nothing is left to print here
-        let Encoded::Refused(refusal) = answer else {
-            return 0;
-        };
-        return lines::refused_line(refusal, out);
-    };
-    lines::packed_lines(kind, count, &packed[..n], out)
+    match answer {
+        Encoded::Wrote(n) => lines::packed_lines(kind, count, &packed[..n], out),
+        Encoded::Refused(refusal) => lines::refused_line(refusal, out),
+    }
 }
 
 // Puts the whole output for a text at the front of `out`, and answers how long it is.
+#[tactic(auto, using(crate::proofs::Output::printing), unfolding(bits::specs::Tables::bytes_of))]
 fn put_printed(text: &[u8], out: &mut [u8]) -> usize
     requires { most ≤ length out.old }
     ensures value { result ≡ length (printed text.now) }
     ensures memory { out.new ≡ front (printed text.now) out.old }
 {
     if LONGEST < text.len() {
-        return lines::text_line(b"too long", out);
+        return lines::text_line(b"too long", out).unwrap();
     }
     // without folding: a text with lowercase letters is Ascii to this program
     let kind = alphabet::guess_alphabet(false, text);
-    let mut packed = [0u8; LONGEST];
+    let mut packed = [0; LONGEST];
     let answer = coder::encode_sequence(kind.number(), false, text, &mut packed);
-    put_answer(kind, text.len() as u64, answer, &packed, out)
+    put_answer(kind, text.len() as u64, answer, &packed, out).unwrap()
 }
 
-// The same for what reading has put into `buf`: a text that was not read to its end is not printed.
-pub fn put_output(reading: Reading, buf: &[u8], out: &mut [u8]) -> usize
-    requires reading_in_bounds { bytes_read reading ≤ length buf.now }
+// The same for what was read into `buf`: a text that was not read to its end is not printed.
+#[tactic(auto, unfolding(crate::specs::Printed::output))]
+pub fn put_output(read: io::Result<usize>, buf: &[u8], out: &mut [u8]) -> usize
+    requires read_in_bounds { IfOk read (λ len. len ≤ length buf.now) }
     requires most_in_bounds { most ≤ length out.old }
-    ensures value { result ≡ length (output reading buf.now) }
-    ensures memory { out.new ≡ front (output reading buf.now) out.old }
+    ensures value { result ≡ length (output read buf.now) }
+    ensures memory { out.new ≡ front (output read buf.now) out.old }
 {
-    let Reading::Whole(len) = reading else {
-        return lines::text_line(b"cannot read", out);
-    };
-    put_printed(&buf[..len], out)
+    match read {
+        Ok(len) => put_printed(&buf[..len], out),
+        Err(_) => lines::text_line(b"cannot read", out).unwrap(),
+    }
 }

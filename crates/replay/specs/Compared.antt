@@ -1,12 +1,13 @@
 -- What it takes for a line to agree.
-use Rattle.std.specs.Prelude.{◌≡◌, List, ℕ}
-use Rattle.replay.specs.declared.answer.Answer.{Answer}
-use Rattle.replay.specs.declared.line.Call.{Call}
-use Rattle.replay.specs.declared.line.Told.{Told}
+use Rattle.std.specs.Prelude.{◌≡◌, vec_len}
+use Rattle.replay.specs.declared.call.Answer.{Answer}
+use Rattle.replay.specs.declared.call.Made.{Made}
 use Rattle.replay.specs.declared.line.Outcome.{Outcome}
+use Rattle.replay.specs.Takes.{takes}
 
 -- a line that agrees gives as many numbers as the function takes and tells, and each number and each byte of memory is the port's
-unfoldable pub Agreeing : Outcome → Answer → Call → Told → List ℕ → List ℕ → List ℕ → Type 0
-Agreeing Outcome.Agreed a call told words memory left = (a.takes ≡ call.numbers) × (a.tells ≡ told.words) × (a.words ≡ words) × (memory ≡ left)
-Agreeing Outcome.Differs a call told words memory left = Unit {0}
-Agreeing Outcome.Bad a call told words memory left = Unit {0}
+abbrev pub Agreeing : Outcome → Made → Answer → Type 0
+Agreeing Outcome.Agreed m told =
+    (takes m.function ≡ vec_len m.numbers) × (m.answer.numbers.items ≡ told.numbers.items)
+    × (m.answer.memory.bytes.items ≡ told.memory.bytes.items) × (m.answer.memory.lent ≡ told.memory.lent)
+Agreeing _ m told = Unit {0}

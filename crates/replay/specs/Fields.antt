@@ -1,9 +1,5 @@
--- The fields of a list's lines.
-use Rattle.std.specs.Prelude.{ℕ, suc, ◌+◌, ◌*◌, cond, eqb, List, [], ◌∷◌, take, drop}
-
--- a part of a line, from one place to another
-unfoldable pub slice : ℕ → ℕ → List ℕ → List ℕ
-slice from to line = drop from (take to line)
+-- The words of a list's lines.
+use Rattle.std.specs.Prelude.{ℕ, suc, ◌+◌, ◌*◌, cond, eqb, List, [], ◌∷◌}
 
 -- the place of the first entry that is the one asked for, and the length where there is none
 unfoldable pub index_of : ℕ → List ℕ → ℕ

@@ -1,106 +1,82 @@
 // Calls of the packing layer.
-use crate::answer::{Answer, packed, three, unknown};
-use crate::parse::same;
+ghost use Rattle.std.specs.Prelude.{◌≡◌, IfOk, length};
+ghost use Rattle.replay.specs.Takes.{takes_encoders};
+
+use crate::error::LineError;
+use crate::row::Row;
 use fantailclock::{
-    Encoder, EncoderStarted, Range, Updated, fc_byte_range_for_bases, fc_encode_sequence,
-    fc_encoder_ask, fc_encoder_finalize, fc_encoder_new, fc_encoder_update,
+    Encoder, fc_byte_range_for_bases, fc_encode_sequence, fc_encoder_ask, fc_encoder_finalize,
+    fc_encoder_new, fc_encoder_update,
 };
+use std::alloc::Global;
+
+#[derive(Clone, Copy, Debug, PartialEq, Eq)]
+pub enum Encoders {
+    New,
+    Update,
+    Finalize,
+    EncodeSequence,
+    ByteRangeForBases,
+    Ask,
+}
 
 // The state that nine numbers make.
-fn encoder(given: &[u64; 11]) -> Encoder {
-    Encoder {
-        alphabet: given[0],
-        seen: given[1],
-        pending_bits: given[2],
-        pending: given[3],
-        has_bad: given[4],
-        bad_position: given[5],
-        bad_byte: given[6],
-        fold: given[7],
-        bad_count: given[8],
-    }
+fn encoder(given: &[u64]) -> Result<Encoder, LineError>
+    ensures { IfOk result (λ _. length given.now ≡ 9) }
+{
+    let [
+        alphabet,
+        seen,
+        pending_bits,
+        pending,
+        has_bad,
+        bad_position,
+        bad_byte,
+        fold,
+        bad_count,
+    ] = *given
+    else {
+        return Err(LineError::NoCall);
+    };
+    Ok(Encoder {
+        alphabet,
+        seen,
+        pending_bits,
+        pending,
+        has_bad,
+        bad_position,
+        bad_byte,
+        fold,
+        bad_count,
+    })
 }
 
-fn started(answer: EncoderStarted) -> Answer {
-    let next = answer.next;
-    Answer {
-        takes: 2,
-        tells: 10,
-        words: [
-            answer.refusal,
-            next.alphabet,
-            next.seen,
-            next.pending_bits,
-            next.pending,
-            next.has_bad,
-            next.bad_position,
-            next.bad_byte,
-            next.fold,
-            next.bad_count,
-            0,
-        ],
-    }
-}
-
-fn updated(takes: usize, answer: Updated) -> Answer {
-    let next = answer.next;
-    Answer {
-        takes,
-        tells: 11,
-        words: [
-            answer.refusal,
-            answer.count,
-            next.alphabet,
-            next.seen,
-            next.pending_bits,
-            next.pending,
-            next.has_bad,
-            next.bad_position,
-            next.bad_byte,
-            next.fold,
-            next.bad_count,
-        ],
-    }
-}
-
-fn range(answer: Range) -> Answer {
-    three(3, answer.refusal, answer.start, answer.end)
-}
-
-// The place of a name among these functions, from 1 on; 0 for another.
-fn place(name: &[u8]) -> u64 {
-    if same(name, b"encoder_new") {
-        return 1;
-    }
-    if same(name, b"encoder_update") {
-        return 2;
-    }
-    if same(name, b"encoder_finalize") {
-        return 3;
-    }
-    if same(name, b"encode_sequence") {
-        return 4;
-    }
-    if same(name, b"byte_range_for_bases") {
-        return 5;
-    }
-    if same(name, b"encoder_ask") {
-        return 6;
-    }
-    0
-}
-
-// The answer of the function of that name.
-pub fn answer(name: &[u8], given: &[u64; 11], text: &[u8], out: &mut [u8]) -> Answer {
-    let first = given[0];
-    let second = given[1];
-    match place(name) {
-        1 => started(fc_encoder_new(first, second)),
-        2 => updated(9, fc_encoder_update(encoder(given), text, out)),
-        3 => packed(9, fc_encoder_finalize(encoder(given), out)),
-        4 => packed(2, fc_encode_sequence(first, second, text, out)),
-        5 => range(fc_byte_range_for_bases(first, second, given[2])),
-        6 => updated(10, fc_encoder_ask(encoder(given), text, given[9])),
-        _ => unknown(),
+impl Encoders {
+    // What the function answers of the numbers given, if it takes so many.
+    pub fn answer(
+        self,
+        alloc: Global,
+        given: &[u64],
+        text: &[u8],
+        out: &mut [u8],
+    ) -> Result<Vec<u64>, LineError>
+        ensures { IfOk result (λ _. takes_encoders self ≡ length given.now) }
+    {
+        let row = match (self, given) {
+            (Encoders::New, [alphabet, fold]) => fc_encoder_new(*alphabet, *fold).row(alloc),
+            (Encoders::Update, state) => fc_encoder_update(encoder(state)?, text, out).row(alloc),
+            (Encoders::Finalize, state) => fc_encoder_finalize(encoder(state)?, out).row(alloc),
+            (Encoders::EncodeSequence, [alphabet, fold]) => {
+                fc_encode_sequence(*alphabet, *fold, text, out).row(alloc)
+            }
+            (Encoders::ByteRangeForBases, [start, end, bits]) => {
+                fc_byte_range_for_bases(*start, *end, *bits).row(alloc)
+            }
+            (Encoders::Ask, [state @ .., room]) => {
+                fc_encoder_ask(encoder(state)?, text, *room).row(alloc)
+            }
+            _ => return Err(LineError::NoCall),
+        };
+        Ok(row?)
     }
 }

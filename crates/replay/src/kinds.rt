@@ -1,74 +1,59 @@
 // Calls of the alphabet layer.
-use crate::answer::{Answer, count, number, one, three, two, unknown};
-use crate::parse::same;
+ghost use Rattle.std.specs.Prelude.{◌≡◌, IfOk, length};
+ghost use Rattle.replay.specs.Takes.{takes_kinds};
+
+use crate::error::LineError;
+use crate::row::Row;
 use fantailclock::{
-    Guesser, Guessing, fc_abi_version, fc_bits_per_symbol, fc_contains, fc_display_name,
-    fc_guess_alphabet, fc_guesser_guess, fc_guesser_new, fc_guesser_update, fc_later_alphabet,
+    Guesser, fc_abi_version, fc_bits_per_symbol, fc_contains, fc_display_name, fc_guess_alphabet,
+    fc_guesser_guess, fc_guesser_new, fc_guesser_update, fc_later_alphabet,
 };
+use std::alloc::Global;
 
-// The state that two numbers make.
-fn guesser(given: &[u64; 11]) -> Guesser {
-    Guesser {
-        mask: given[0],
-        fold: given[1],
+#[derive(Clone, Copy, Debug, PartialEq, Eq)]
+pub enum Kinds {
+    AbiVersion,
+    BitsPerSymbol,
+    Contains,
+    DisplayName,
+    GuesserNew,
+    GuesserUpdate,
+    GuesserGuess,
+    GuessAlphabet,
+    LaterAlphabet,
+}
+
+impl Kinds {
+    // What the function answers of the numbers given, if it takes so many.
+    pub fn answer(
+        self,
+        alloc: Global,
+        given: &[u64],
+        text: &[u8],
+        out: &mut [u8],
+    ) -> Result<Vec<u64>, LineError>
+        ensures { IfOk result (λ _. takes_kinds self ≡ length given.now) }
+    {
+        let row = match (self, given) {
+            (Kinds::AbiVersion, []) => fc_abi_version().row(alloc),
+            (Kinds::BitsPerSymbol, [alphabet]) => fc_bits_per_symbol(*alphabet).row(alloc),
+            (Kinds::Contains, [alphabet, byte]) => fc_contains(*alphabet, *byte).row(alloc),
+            (Kinds::DisplayName, [alphabet]) => fc_display_name(*alphabet, out).row(alloc),
+            (Kinds::GuesserNew, [fold]) => fc_guesser_new(*fold).row(alloc),
+            (Kinds::GuesserUpdate, [mask, fold]) => {
+                fc_guesser_update(guesser(*mask, *fold), text).row(alloc)
+            }
+            (Kinds::GuesserGuess, [mask, fold]) => {
+                fc_guesser_guess(guesser(*mask, *fold)).row(alloc)
+            }
+            (Kinds::GuessAlphabet, [fold]) => fc_guess_alphabet(*fold, text).row(alloc),
+            (Kinds::LaterAlphabet, [one, other]) => fc_later_alphabet(*one, *other).row(alloc),
+            _ => return Err(LineError::NoCall),
+        };
+        Ok(row?)
     }
 }
 
-fn started(next: Guesser) -> Answer {
-    two(1, next.mask, next.fold)
-}
-
-fn guessing(answer: Guessing) -> Answer {
-    let next = answer.next;
-    three(2, answer.refusal, next.mask, next.fold)
-}
-
-// The place of a name among these functions, from 1 on; 0 for another.
-fn place(name: &[u8]) -> u64 {
-    if same(name, b"abi_version") {
-        return 1;
-    }
-    if same(name, b"bits_per_symbol") {
-        return 2;
-    }
-    if same(name, b"contains") {
-        return 3;
-    }
-    if same(name, b"display_name") {
-        return 4;
-    }
-    if same(name, b"guesser_new") {
-        return 5;
-    }
-    if same(name, b"guesser_update") {
-        return 6;
-    }
-    if same(name, b"guesser_guess") {
-        return 7;
-    }
-    if same(name, b"guess_alphabet") {
-        return 8;
-    }
-    if same(name, b"later_alphabet") {
-        return 9;
-    }
-    0
-}
-
-// The answer of the function of that name.
-pub fn answer(name: &[u8], given: &[u64; 11], text: &[u8], out: &mut [u8]) -> Answer {
-    let first = given[0];
-    let second = given[1];
-    match place(name) {
-        1 => one(0, fc_abi_version()),
-        2 => number(1, fc_bits_per_symbol(first)),
-        3 => number(2, fc_contains(first, second)),
-        4 => count(1, fc_display_name(first, out)),
-        5 => started(fc_guesser_new(first)),
-        6 => guessing(fc_guesser_update(guesser(given), text)),
-        7 => number(2, fc_guesser_guess(guesser(given))),
-        8 => number(1, fc_guess_alphabet(first, text)),
-        9 => number(2, fc_later_alphabet(first, second)),
-        _ => unknown(),
-    }
+fn guesser(mask: u64, fold: u64) -> Guesser {
+    Guesser { mask, fold }
 }

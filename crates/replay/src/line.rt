@@ -1,166 +1,93 @@
 // One line of the list: read, called, compared.
 ghost use Rattle.replay.specs.Compared.{Agreeing};
 
-use crate::answer::{Answer, same_words, unknown};
-use crate::parse::{find, is_at, read_bytes, read_numbers, same};
-use crate::report::print_answer;
+use crate::call::{Answer, Call, Made};
+use crate::error::LineError;
+use crate::function::Function;
+use crate::memory::Memory;
+use crate::word::decimal;
+use std::alloc::{AllocError, Global};
 
-#[derive(Clone, Copy)]
+// What a line is: a comment, a call whose answer agreed, one whose answer differs, with the port's, or none of these.
+#[derive(Drop)]
 pub enum Outcome {
+    Comment,
     Agreed,
-    Differs,
+    Differs(Answer),
     Bad,
 }
 
-// A call's numbers, bytes and output memory: how many, and where the field behind them begins.
-#[derive(Clone, Copy)]
-struct Call {
-    found: bool,
-    numbers: usize,
-    text: usize,
-    room: usize,
-    next: usize,
+// The numbers in front, and the words behind them.
+fn read_numbers<'a, 'b>(
+    alloc: Global,
+    words: &'b [&'a [u8]],
+) -> Result<(Vec<u64>, &'b [&'a [u8]]), AllocError> {
+    let mut numbers = Vec::new(alloc);
+    for (i, word) in words.iter().enumerate() {
+        let Some(number) = decimal(word) else {
+            return Ok((numbers, &words[i..]));
+        };
+        numbers.push(number)?;
+    }
+    Ok((numbers, &[]))
 }
 
-// An answer's numbers and memory: how many.
-#[derive(Clone, Copy)]
-struct Told {
-    found: bool,
-    words: usize,
-    room: usize,
+// The call that a line gives, and the answer that it tells.
+fn read(alloc: Global, line: &[u8]) -> Result<(Call, Answer), LineError> {
+    let words: Vec<&[u8]> = line.split(|byte| *byte == b' ').collect(alloc)?;
+    let [name, words @ ..] = words.as_slice() else {
+        return Err(LineError::NoCall);
+    };
+    let (numbers, words) = read_numbers(alloc, words)?;
+    let [text, memory, b"rust" | b"rules", words @ ..] = words else {
+        return Err(LineError::NoCall);
+    };
+    let (told, words) = read_numbers(alloc, words)?;
+    let [left] = words else {
+        return Err(LineError::NoCall);
+    };
+    let call = Call {
+        function: Function::try_from(*name)?,
+        numbers,
+        text: Memory::read(alloc, text)?,
+        memory: Memory::read(alloc, memory)?,
+    };
+    let answer = Answer {
+        numbers: told,
+        memory: Memory::read(alloc, left)?,
+    };
+    Ok((call, answer))
 }
 
-// Reads the numbers, the bytes lent and the output memory.
-fn read_call(
-    line: &[u8],
-    at: usize,
-    numbers: &mut [u64; 11],
-    text: &mut [u8; 320],
-    memory: &mut [u8; 320],
-) -> Call {
-    let given = read_numbers(line, at, numbers);
-    let lent = read_bytes(line, given.next, text);
-    let room = read_bytes(line, lent.next, memory);
-    Call {
-        found: lent.found && room.found,
-        numbers: given.count,
-        text: lent.count,
-        room: room.count,
-        next: room.next,
-    }
-}
-
-// Where the field behind the answerer's name begins; the line's end where none is named.
-fn behind_answerer(line: &[u8], at: usize) -> usize {
-    if is_at(line, at, b" rust ") {
-        return at + 5;
-    }
-    if is_at(line, at, b" rules ") {
-        return at + 6;
-    }
-    line.len()
-}
-
-// Reads the numbers and the memory of the answer, which must end the line.
-fn read_told(line: &[u8], at: usize, words: &mut [u64; 11], memory: &mut [u8; 320]) -> Told {
-    let told = read_numbers(line, behind_answerer(line, at), words);
-    let room = read_bytes(line, told.next, memory);
-    Told {
-        found: room.found && room.next == line.len(),
-        words: told.count,
-        room: room.count,
-    }
-}
-
-// What the port answers.
-fn answered(name: &[u8], given: &[u64; 11], text: &[u8], out: &mut [u8]) -> Answer {
-    let of_kinds = crate::kinds::answer(name, given, text, out);
-    if 0 < of_kinds.tells {
-        return of_kinds;
-    }
-    let of_encoders = crate::encoders::answer(name, given, text, out);
-    if 0 < of_encoders.tells {
-        return of_encoders;
-    }
-    let of_reads = crate::reads::answer(name, given, text, out);
-    if 0 < of_reads.tells {
-        return of_reads;
-    }
-    crate::streams::answer(name, given, text, out)
-}
-
-// The same with n bytes of the text and `room` of the memory lent, where there are so many; the name ends at `end`.
-fn answered_front(
-    line: &[u8],
-    end: usize,
-    given: &[u64; 11],
-    text: &[u8],
-    n: usize,
-    memory: &mut [u8],
-    room: usize,
-) -> Answer {
-    if end <= line.len() && n <= text.len() && room <= memory.len() {
-        return answered(&line[0..end], given, &text[0..n], &mut memory[0..room]);
-    }
-    unknown()
-}
-
-// The same with as much lent as the call says.
-fn answered_call(
-    line: &[u8],
-    end: usize,
-    call: Call,
-    given: &[u64; 11],
-    text: &[u8; 320],
-    memory: &mut [u8; 320],
-) -> Answer {
-    answered_front(line, end, given, text, call.text, memory, call.room)
-}
-
-// A line is bad that gives fewer or more numbers than the function takes or tells. The bytes behind the output memory are compared too.
-fn compared(
-    answer: Answer,
-    call: Call,
-    told: Told,
-    words: &[u64; 11],
-    memory: &[u8; 320],
-    left: &[u8; 320],
-) -> Outcome
-    ensures { Agreeing result answer call told words.now memory.now left.now }
+// A line is bad that tells fewer or more numbers than the function answers, or another length of memory. The bytes behind the memory lent are compared too.
+fn compared(made: Made, told: &Answer) -> Outcome
+    ensures { Agreeing result made told.now }
 {
-    if answer.tells == 0 {
+    let answer = made.answer;
+    if answer.numbers.len() != told.numbers.len() || answer.memory.lent != told.memory.lent {
         return Outcome::Bad;
     }
-    if answer.takes != call.numbers {
-        return Outcome::Bad;
+    if answer == *told {
+        return Outcome::Agreed;
     }
-    if answer.tells != told.words {
-        return Outcome::Bad;
-    }
-    let found = answer.words;
-    if same_words(&found, words) {
-        if same(memory, left) {
-            return Outcome::Agreed;
-        }
-    }
-    print_answer(&found, answer.tells, memory, call.room);
-    Outcome::Differs
+    Outcome::Differs(answer)
 }
 
-// Makes the call of a line, and compares the answer with the line's. What is not lent holds A5, so that a byte read behind the lent ones shows, and one written
-// there too.
-pub fn replayed(line: &[u8]) -> Outcome {
-    let mut numbers = [0u64; 11];
-    let mut text = [0xA5u8; 320];
-    let mut memory = [0xA5u8; 320];
-    let mut words = [0u64; 11];
-    let mut left = [0xA5u8; 320];
-    let end = find(line, 0, line.len(), b' ');
-    let call = read_call(line, end, &mut numbers, &mut text, &mut memory);
-    let told = read_told(line, call.next, &mut words, &mut left);
-    if !call.found || !told.found || call.room != told.room {
-        return Outcome::Bad;
+// Makes the call of a line, and compares the answer with the line's.
+fn called(alloc: Global, line: &[u8]) -> Result<Outcome, LineError> {
+    let (call, told) = read(alloc, line)?;
+    let made = call.make(alloc)?;
+    Ok(compared(made, &told))
+}
+
+// What a line is.
+pub fn replayed(alloc: Global, line: &[u8]) -> Result<Outcome, AllocError> {
+    if line.first() == Some(&b'#') {
+        return Ok(Outcome::Comment);
     }
-    let answer = answered_call(line, end, call, &numbers, &text, &mut memory);
-    compared(answer, call, told, &words, &memory, &left)
+    match called(alloc, line) {
+        Ok(outcome) => Ok(outcome),
+        Err(LineError::NoCall) => Ok(Outcome::Bad),
+        Err(LineError::OutOfMemory(error)) => Err(error),
+    }
 }

@@ -2,37 +2,36 @@
 // port answers is compared with it. Prints for each function how many lines agreed, and each line that differs or is no call.
 #![tactic(auto)]
 
-mod answer;
+mod call;
+mod count;
 mod encoders;
+mod error;
+mod function;
 mod kinds;
 mod line;
-mod parse;
+mod memory;
 mod reads;
+mod replay;
 mod report;
+mod row;
 mod streams;
 mod tally;
+mod word;
 
-ghost use Rattle.std.specs.Prelude.{◌≡◌, length};
+use crate::replay::replay;
+use crate::report::print_total;
+use std::io;
+use std::io::Read;
 
-use crate::report::{print, print_total};
-use crate::tally::replay;
+// The list must be shorter.
+const LIMIT: usize = 1_048_576;
 
-// Standard input.
-const STDIN: i32 = 0;
-
-// Memory for the list, which must be shorter.
-fn space() -> [u8; 1048576]
-    ensures { 1048576 ≡ length result }
-{
-    [0; 1048576]
-}
-
-fn main() {
-    let mut list = space();
-    let len = io::read_full(STDIN, &mut list);
-    if len == 1048576 {
-        print(b"too long\n");
-        return;
+fn main(rt: HostRuntime) -> io::Result<()> {
+    let mut list = Vec::new(rt.alloc());
+    rt.stdin().take(LIMIT as u64).read_to_end(&mut list)?;
+    if list.len() == LIMIT {
+        return println!(rt; "too long");
     }
-    print_total(replay(&list[..len]));
+    let tally = replay(&rt, &list)?;
+    print_total(&rt, &tally)
 }

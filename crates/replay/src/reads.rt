@@ -1,78 +1,82 @@
 // Calls of the windows layer.
-use crate::answer::{Answer, count, covered, unknown};
-use crate::parse::same;
+ghost use Rattle.std.specs.Prelude.{◌≡◌, IfOk, length};
+ghost use Rattle.replay.specs.Takes.{takes_reads};
+
+use crate::error::LineError;
+use crate::row::Row;
 use fantailclock::{
     fc_decode_2bit, fc_decode_3bit, fc_decode_4bit, fc_decode_5bit, fc_decode_covered,
     fc_decode_rolling, fc_decode_string_from_bytes, fc_decode_substring_from_bytes,
     fc_decode_substring_from_bytes_at_offset,
 };
+use std::alloc::Global;
 
-// The place of a name among these functions, from 1 on; 0 for another.
-fn place(name: &[u8]) -> u64 {
-    if same(name, b"decode_substring_from_bytes_at_offset") {
-        return 1;
-    }
-    if same(name, b"decode_substring_from_bytes") {
-        return 2;
-    }
-    if same(name, b"decode_string_from_bytes") {
-        return 3;
-    }
-    if same(name, b"decode_covered") {
-        return 4;
-    }
-    if same(name, b"decode_rolling") {
-        return 5;
-    }
-    if same(name, b"decode_2bit") {
-        return 6;
-    }
-    if same(name, b"decode_3bit") {
-        return 7;
-    }
-    if same(name, b"decode_4bit") {
-        return 8;
-    }
-    if same(name, b"decode_5bit") {
-        return 9;
-    }
-    0
+#[derive(Clone, Copy, Debug, PartialEq, Eq)]
+pub enum Reads {
+    SubstringAtOffset,
+    Substring,
+    String,
+    Covered,
+    Rolling,
+    TwoBit,
+    ThreeBit,
+    FourBit,
+    FiveBit,
 }
 
 // A number as a position.
-fn size(number: u64) -> usize {
-    number as usize
+fn size(number: &u64) -> usize {
+    *number as usize
 }
 
-// The answer of the function of that name.
-pub fn answer(name: &[u8], given: &[u64; 11], bytes: &[u8], out: &mut [u8]) -> Answer {
-    let alphabet = given[0];
-    let first = size(alphabet);
-    let second = size(given[1]);
-    let third = size(given[2]);
-    let fourth = size(given[3]);
-    match place(name) {
-        1 => count(
-            4,
-            fc_decode_substring_from_bytes_at_offset(alphabet, bytes, second, third, fourth, out),
-        ),
-        2 => count(
-            3,
-            fc_decode_substring_from_bytes(alphabet, bytes, second, third, out),
-        ),
-        3 => count(2, fc_decode_string_from_bytes(alphabet, bytes, second, out)),
-        4 => covered(
-            4,
-            fc_decode_covered(alphabet, bytes, second, third, fourth, out),
-        ),
-        5 => count(
-            4,
-            fc_decode_rolling(alphabet, bytes, second, third, fourth, out),
-        ),
-        6 => count(3, fc_decode_2bit(bytes, first, second, third, out)),
-        7 => count(3, fc_decode_3bit(bytes, first, second, third, out)),
-        8 => count(3, fc_decode_4bit(bytes, first, second, third, out)),
-        9 => count(3, fc_decode_5bit(bytes, first, second, third, out)),
-        _ => unknown(),
+impl Reads {
+    // What the function answers of the numbers given, if it takes so many.
+    pub fn answer(
+        self,
+        alloc: Global,
+        given: &[u64],
+        bytes: &[u8],
+        out: &mut [u8],
+    ) -> Result<Vec<u64>, LineError>
+        ensures { IfOk result (λ _. takes_reads self ≡ length given.now) }
+    {
+        let row = match (self, given) {
+            (Reads::SubstringAtOffset, [alphabet, offset, start, end]) => {
+                let (offset, start, end) = (size(offset), size(start), size(end));
+                fc_decode_substring_from_bytes_at_offset(
+                    *alphabet, bytes, offset, start, end, out,
+                ).row(alloc)
+            }
+            (Reads::Substring, [alphabet, start, end]) => {
+                fc_decode_substring_from_bytes(*alphabet, bytes, size(start), size(end), out).row(
+                    alloc,
+                )
+            }
+            (Reads::String, [alphabet, len]) => {
+                fc_decode_string_from_bytes(*alphabet, bytes, size(len), out).row(alloc)
+            }
+            (Reads::Covered, [alphabet, offset, start, end]) => {
+                let (offset, start, end) = (size(offset), size(start), size(end));
+                fc_decode_covered(*alphabet, bytes, offset, start, end, out).row(alloc)
+            }
+            (Reads::Rolling, [alphabet, offset, start, end]) => {
+                let (offset, start, end) = (size(offset), size(start), size(end));
+                fc_decode_rolling(*alphabet, bytes, offset, start, end, out).row(alloc)
+            }
+            (Reads::TwoBit, [offset, start, end]) => {
+                fc_decode_2bit(bytes, size(offset), size(start), size(end), out).row(alloc)
+            }
+            (Reads::ThreeBit, [offset, start, end]) => {
+                fc_decode_3bit(bytes, size(offset), size(start), size(end), out).row(alloc)
+            }
+            (Reads::FourBit, [offset, start, end]) => {
+                fc_decode_4bit(bytes, size(offset), size(start), size(end), out).row(alloc)
+            }
+            (Reads::FiveBit, [offset, start, end]) => {
+                fc_decode_5bit(bytes, size(offset), size(start), size(end), out).row(alloc)
+            }
+            _ => return Err(LineError::NoCall),
+        };
+        Ok(row?)
     }
 }

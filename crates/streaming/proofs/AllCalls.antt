@@ -10,12 +10,15 @@ use native.Mathlib.Omega.{arith}
 use borrow.Author.Tests.{ltb-true, ltb-false, leb-true, leb-false}
 use lib.Dec.{leb, ltb}
 use Rattle.alphabet.specs.declared.kind.AlphabetType.{AlphabetType}
+use Rattle.std.specs.Prelude.{Result}
+use Rattle.alphabet.specs.declared.refusal.Refused.{Refused}
 use Rattle.alphabet.specs.Symbols.{Coding, coding}
 use Rattle.alphabet.proofs.Laws.{lawful}
 use Rattle.bits.specs.Tables.{tabulate, at}
 use Rattle.bits.specs.Streams.{bit_at, word, cut}
 use Rattle.bits.specs.Packing.{bytes_for}
 use Rattle.bits.proofs.Tabulated.{tabulate-add, tabulate_ext}
+use Rattle.streaming.specs.declared.decoder.StreamingDecoder.{StreamingDecoder}
 use Rattle.streaming.specs.declared.decoder.Streamed.{Streamed}
 use Rattle.streaming.specs.Stream.{fresh_stream}
 use Rattle.streaming.specs.Count.{Place, begin, taken_by, Feed, offered, reached, place_after, place_after_all, bases_between, Fed, took_by, next_by, fed_by, fed_all}
@@ -54,7 +57,7 @@ module _ (kind : AlphabetType) (q budget : ℕ) (lent : List ℕ) where
   fed_more small p c g = λ i.
       record {
         state = ap next_by r.answer i;
-        taken = (ap (λ (x : Streamed). taken_by A q p + took_by x) r.answer ∙ sum) i;
+        taken = (ap (λ (x : Result Streamed (Refused StreamingDecoder)). taken_by A q p + took_by x) r.answer ∙ sum) i;
         bases =
             (ap (λ (l : List ℕ). bases_between A q budget lent 0 p.k ++ l) r.wrote
             ∙ bases_join p.k (next.k - p.k)

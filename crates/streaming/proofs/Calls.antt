@@ -7,9 +7,9 @@ use Prim.Native.Nat.{ℕ, ◌^◌, ◌≤◌, ◌<◌}
 use native.Mathlib.Omega.{arith}
 use borrow.Author.Tests.{ltb-true, eqb-true, lt-ltb, le-ltb}
 use lib.Dec.{ltb, eqb}
+use Rattle.std.specs.Prelude.{Ok, Err}
 use Rattle.bits.proofs.Computed.{both_true}
 use Rattle.alphabet.specs.declared.kind.AlphabetType.{AlphabetType}
-use Rattle.alphabet.specs.declared.kind.Named.{Named}
 use Rattle.alphabet.specs.declared.refusal.Refusal.{Refusal}
 use Rattle.alphabet.specs.Questions.{by}
 use Rattle.alphabet.specs.Symbols.{coding}
@@ -17,7 +17,6 @@ use Rattle.alphabet.specs.Names.{named_at}
 use Rattle.alphabet.proofs.Laws.{Packed, Plain, shape}
 use Rattle.alphabet.proofs.Calls.{named_kind, named-refused}
 use Rattle.streaming.specs.declared.decoder.StreamingDecoder.{StreamingDecoder}
-use Rattle.streaming.specs.declared.decoder.StreamStarted.{StreamStarted}
 use Rattle.streaming.specs.Stream.{fresh_stream, sound_stream, start_stream_at}
 
 -- ---- question 4
@@ -71,19 +70,19 @@ module _ (s : StreamingDecoder) where
 -- ---- `new`
 
 module _ (alphabet skip budget : ℕ) where
-  pub start_unknown : (q : Refusal) → Named.Refused q ≡ named_at alphabet → StreamStarted.Refused (by 8 []) ≡ start_stream_at alphabet skip budget
+  pub start_unknown : (q : Refusal) → Err q ≡ named_at alphabet → Err (by 8 []) ≡ start_stream_at alphabet skip budget
   unfolding start_stream_at
   start_unknown q e = rw (named-refused alphabet q (sym e)).0
 
-  pub start_skip : (k : AlphabetType) → Named.Kind k ≡ named_at alphabet → 8 ≤ skip → StreamStarted.Refused (by 6 []) ≡ start_stream_at alphabet skip budget
+  pub start_skip : (k : AlphabetType) → Ok k ≡ named_at alphabet → 8 ≤ skip → Err (by 6 []) ≡ start_stream_at alphabet skip budget
   unfolding start_stream_at
   start_skip k e h = rw ((named_kind alphabet k (sym e)).0, le-ltb skip 8 h)
 
-  pub start_fresh : (k : AlphabetType) → Named.Kind k ≡ named_at alphabet → skip < 8 → StreamStarted.Fresh (fresh_stream k skip budget) ≡ start_stream_at alphabet skip budget
+  pub start_fresh : (k : AlphabetType) → Ok k ≡ named_at alphabet → skip < 8 → Ok (fresh_stream k skip budget) ≡ start_stream_at alphabet skip budget
   unfolding start_stream_at
   start_fresh k e h =
       let s = named_kind alphabet k (sym e) in
-      rw (s.0, lt-ltb skip 8 h) (ap (λ (x : AlphabetType). StreamStarted.Fresh (fresh_stream x skip budget)) (sym s.1))
+      rw (s.0, lt-ltb skip 8 h) (ap (λ (x : AlphabetType). Ok (fresh_stream x skip budget)) (sym s.1))
 
 -- ---- the two shapes of alphabets
 

@@ -3,18 +3,20 @@ use mathlib.Core.Path.{◌≡◌, refl, sym, ap, ap₂, ◌∙◌}
 use mathlib.Core.List.{List, ◌++◌}
 use Prim.Native.Nat.{ℕ, ◌+◌, ◌-◌, ◌*◌, ◌/◌, ◌%◌, ◌^◌, ◌≤◌, ◌<◌, min}
 use native.Mathlib.Nat.{add-zero, add_comm, add-mul, one-mul, zero-mul, mod-eq_of_lt}
-use native.Mathlib.Numerals.{add-one}
 use native.Mathlib.Decide.{dec_lt}
 use native.Mathlib.Omega.{arith}
-use lib.ListN.{length, drop, set}
+use lib.ListN.{length, drop}
 use lib.Pow.{shr_mod}
+use Rattle.std.specs.List.{between}
+use Rattle.std.proofs.lemmas.List.Edits.{get_or-between, length-between}
 use Rattle.bits.specs.Tables.{at, Bytes}
 use Rattle.bits.specs.Streams.{word}
+use Rattle.bits.specs.Memory.{front}
 use Rattle.bits.proofs.Words.{word-whole}
-use Rattle.bits.proofs.Tabulated.{tabulate_ext, store}
+use Rattle.bits.proofs.Tabulated.{is_tabulate}
 use Rattle.streaming.specs.declared.decoder.StreamingDecoder.{StreamingDecoder}
 use Rattle.streaming.specs.Stream.{reads_by, source_bits, used, bases_of}
-use Rattle.streaming.specs.Flow.{Level, base_at, filled, with_run}
+use Rattle.streaming.specs.Flow.{Level, base_at, filled}
 use Rattle.streaming.proofs.Hand.{hand_past}
 use Rattle.streaming.proofs.Levels.{level_lt, level_field, level-drop, level_all, level_dry}
 
@@ -55,12 +57,6 @@ module _ (s : StreamingDecoder) (source : List ℕ) (eight : (reads_by s).width 
 
 -- ---- bases that are bytes as they come
 
--- one byte more is copied
-pub copy_more : (source : List ℕ) (from i : ℕ) (out out₀ : List ℕ) → i < length out₀ → out ≡ with_run source from i out₀
-    → set out i (at source (from + i)) ≡ with_run source from (i + 1) out₀
-unfolding with_run
-copy_more source from i out out₀ h e = rw (e, add-one i) (store i (λ j. at source (from + j)) out₀ (at source (from + i)) h refl)
-
 module _ (s : StreamingDecoder) (source : List ℕ) (eight : (reads_by s).width ≡ 8) {acc : ℕ} (from : ℕ) (r : Level s source acc 0 from 0) where
   place : (n : ℕ) → used s n ≡ s.bits + (from + n) * 8
   unfolding used
@@ -82,10 +78,14 @@ module _ (s : StreamingDecoder) (source : List ℕ) (eight : (reads_by s).width 
       ∙ mod-eq_of_lt (bytes (from + n)))
 
   -- and they are the bases
-  pub copy_memory : Bytes source → ((c : ℕ) → (reads_by s).symbol c ≡ c) → (n m : ℕ) (memory : List ℕ) {new : List ℕ} → new ≡ with_run source from n memory → n ≡ m
-      → new ≡ filled s source m memory
-  unfolding with_run filled
-  copy_memory bytes same n m memory e f =
-      e
-      ∙ ap (λ (l : List ℕ). l ++ drop n memory) (tabulate_ext n (λ i. at source (from + i)) (base_at s source) (λ i l. copy_base bytes same i))
+  pub copy_memory : Bytes source → ((c : ℕ) → (reads_by s).symbol c ≡ c) → (n m e : ℕ) (memory : List ℕ) {new : List ℕ} → from + n ≤ length source → e ≡ from + n
+      → new ≡ front (between from e source) memory → n ≡ m → new ≡ filled s source m memory
+  unfolding filled
+  copy_memory bytes same n m e memory fits end is f =
+      let run : List ℕ = between from e source in
+      let long : length run ≡ n = length-between source from e (omega arith) ∙ omega arith in
+      is
+      ∙ ap (λ (k : ℕ). run ++ drop k memory) long
+      ∙ ap (λ (l : List ℕ). l ++ drop n memory)
+      (is_tabulate n (base_at s source) 0 run long (λ i l. get_or-between source from e i 0 (omega arith) ∙ copy_base bytes same i))
       ∙ ap (λ (k : ℕ). filled s source k memory) f

@@ -11,6 +11,7 @@ use borrow.Author.Tests.{ltb-true, ltb-false, leb-true, leb-false, lt-ltb, le-lt
 use lib.Dec.{leb, ltb, eqb}
 use lib.ListN.{length, drop, length-take, length-drop}
 use lib.Seq.{get_or-take, get_or-drop}
+use Rattle.std.specs.Prelude.{Ok}
 use Rattle.alphabet.specs.declared.kind.AlphabetType.{AlphabetType}
 use Rattle.alphabet.specs.Symbols.{Coding, coding}
 use Rattle.bits.specs.Tables.{tabulate, at}
@@ -19,9 +20,8 @@ use Rattle.bits.specs.Packing.{bytes_for, at_hand}
 use Rattle.bits.proofs.Words.{word_ext, word_lt, word_bit, bit_lt}
 use Rattle.bits.proofs.Tabulated.{tabulate_ext}
 use Rattle.streaming.specs.declared.decoder.StreamingDecoder.{StreamingDecoder}
-use Rattle.streaming.specs.declared.decoder.Status.TheVariants.{Hungry}
-use Rattle.streaming.specs.declared.decoder.Streamed.{Streamed}
-use Rattle.streaming.specs.Stream.{reads_by, fresh_stream, sound_stream, greatest, source_bits, used, takes, bases_of, status_for, moved, moved_by, stream_at, stream_writes}
+use Rattle.streaming.specs.declared.status.Status.TheVariants.{Hungry}
+use Rattle.streaming.specs.Stream.{reads_by, fresh_stream, sound_stream, greatest, source_bits, used, takes, bases_of, status_for, moved, moved_by, waiting, stream_at, stream_writes}
 use Rattle.streaming.specs.Count.{Place, taken_by, source_of, offered, reached, place_after, bases_between, flowing, stands_for}
 use Rattle.streaming.proofs.Hand.{after_in, after_past}
 use Rattle.streaming.proofs.Greatest.{Largest, greatest_largest, largest_greatest}
@@ -259,8 +259,13 @@ module _ (kind : AlphabetType) (q budget : ℕ) (lent : List ℕ) where
   pub record Goes (p : Place) (m room : ℕ) (next : Place) : Type 0 where
     pub answer :
         stream_at (stands_for kind q budget lent p) (source_of lent (taken_by A q p) m) room
-        ≡ Streamed.Moved (taken_by A q next - taken_by A q p) (next.k - p.k) (cond next.due Hungry (status_for (budget - next.k) (room - (next.k - p.k))))
-        (stands_for kind q budget lent next)
+        ≡ Ok
+        (record {
+          taken = taken_by A q next - taken_by A q p;
+          written = next.k - p.k;
+          status = cond next.due Hungry (status_for (budget - next.k) (room - (next.k - p.k)));
+          next = stands_for kind q budget lent next;
+        })
     pub wrote :
         stream_writes (stands_for kind q budget lent p) (source_of lent (taken_by A q p) m) (stream_at (stands_for kind q budget lent p) (source_of lent (taken_by A q p) m) room)
         ≡ bases_between A q budget lent p.k (next.k - p.k)
@@ -282,7 +287,7 @@ module _ (kind : AlphabetType) (q budget : ℕ) (lent : List ℕ) where
   unfolding stream_at stream_writes moved_by stands_for taken_by reached offered
   goes_on p m room origin r sound begins held =
       record {
-        answer = told ∙ same;
+        answer = told ∙ ap Ok same;
         wrote = ap (stream_writes s source) told ∙ writes_is room r ∙ ap (bases_between A q budget lent p.k) count;
         grows = (omega (arith, all), omega (arith, takes_is room r n₁, ap (λ (x : ℕ). bytes_for (up_to x)) all));
         reach =
@@ -311,7 +316,7 @@ module _ (kind : AlphabetType) (q budget : ℕ) (lent : List ℕ) where
       count : n₁ ≡ next - p.k
       count = omega (arith, all)
 
-      told : stream_at s source room ≡ moved_by s source room n₁
+      told : stream_at s source room ≡ Ok (moved_by s source room n₁)
       told = rw (sound, begins)
 
       bytes : takes s n₁ ≡ bytes_for (up_to next) - taken
@@ -321,9 +326,19 @@ module _ (kind : AlphabetType) (q budget : ℕ) (lent : List ℕ) where
       budgets = omega (arith, r.budget_is, all)
 
       same : moved_by s source room n₁
-          ≡ Streamed.Moved (bytes_for (up_to next) - taken) (next - p.k) (status_for (budget - next) (room - (next - p.k))) (flowing kind q budget lent next)
+          ≡ record {
+            taken = bytes_for (up_to next) - taken;
+            written = next - p.k;
+            status = status_for (budget - next) (room - (next - p.k));
+            next = flowing kind q budget lent next;
+          }
       same = λ i.
-          Streamed.Moved (bytes i) (count i) (status_for (budgets i) (room - count i)) ((moved_is room r ∙ ap (flowing kind q budget lent) all) i)
+          record {
+            taken = bytes i;
+            written = count i;
+            status = status_for (budgets i) (room - count i);
+            next = (moved_is room r ∙ ap (flowing kind q budget lent) all) i;
+          }
 
   fresh_due : 0 < q → eqb (fresh_stream kind q budget).skip 0 ≡ false
   unfolding fresh_stream
@@ -347,7 +362,7 @@ module _ (kind : AlphabetType) (q budget : ℕ) (lent : List ℕ) where
       asks : eqb (fresh_stream kind q budget).skip 0 || ltb 0 (length (source_of lent 0 m)) ≡ false
       asks = ap₂ (λ (x y : Bool). x || y) (fresh_due due) (le-ltb 0 (length (source_of lent 0 m)) (omega arith))
 
-      told : stream_at (fresh_stream kind q budget) (source_of lent 0 m) room ≡ Streamed.Moved 0 0 Hungry (fresh_stream kind q budget)
+      told : stream_at (fresh_stream kind q budget) (source_of lent 0 m) room ≡ Ok (waiting (fresh_stream kind q budget))
       told = rw (sound_fresh small, asks)
 
   goes_due : (m room : ℕ) → q < 8 → 0 < q → (b : Bool) → ltb 0 (length (source_of lent 0 m)) ≡ b

@@ -131,8 +131,12 @@ module _ {s : StreamingDecoder} {source : List ℕ} {acc have taken n : ℕ} (r 
       f
       ∙ ap (answered_by s acc have taken n) g
       ∙ (λ i.
-      Streamed.Moved (level-takes few i) n (status_for (s.budget - n) (room - n))
-      (record { alphabet = s.alphabet; skip = 0; budget = s.budget - n; bits = level_have few i; pending = level_acc few i }))
+      record {
+        taken = level-takes few i;
+        written = n;
+        status = status_for (s.budget - n) (room - n);
+        next = record { alphabet = s.alphabet; skip = 0; budget = s.budget - n; bits = level_have few i; pending = level_acc few i };
+      })
       ∙ ap (moved_by s source room) e
 
   test : ℕ → Bool

@@ -3,6 +3,7 @@ pub mod Greatest
 pub mod Levels
 pub mod Calls
 pub mod Openings
+pub mod Entries
 pub mod Blocks
 pub mod Pumping
 pub mod Carrying

@@ -1,7 +1,8 @@
 -- The count over a list of calls. States document 01, "Top: the stream", its rule on k, and "The record", where a stream's sources begin.
 -- It knows coding, skip, budget and lent bytes, and holds whether the skip is due and k, the bases written in all; nothing of a stream's state.
-use Rattle.std.specs.Prelude.{ℕ, ◌+◌, ◌-◌, ◌*◌, min, Bool, false, cond, not, ◌&&◌, ◌||◌, List, [], ◌∷◌, ◌++◌, map, leb, ltb, eqb, length, take, drop}
+use Rattle.std.specs.Prelude.{ℕ, ◌+◌, ◌-◌, ◌*◌, min, Bool, false, cond, not, ◌&&◌, ◌||◌, List, [], ◌∷◌, ◌++◌, map, leb, ltb, eqb, length, take, drop, Result, Ok, Err}
 use Rattle.alphabet.specs.declared.kind.AlphabetType.{AlphabetType}
+use Rattle.alphabet.specs.declared.refusal.Refused.{Refused}
 use Rattle.alphabet.specs.Questions.{ask◌else◌then◌}
 use Rattle.alphabet.specs.Symbols.{Coding, coding}
 use Rattle.bits.specs.Tables.{at}
@@ -68,13 +69,13 @@ pub record Fed : Type 0 where
   pub bases : List ℕ
 
 -- what an answer took, and the state that it left
-abbrev pub took_by : Streamed → ℕ
-took_by (Streamed.Moved taken written status next) = taken
-took_by (Streamed.Refused q s) = 0
+abbrev pub took_by : Result Streamed (Refused StreamingDecoder) → ℕ
+took_by (Ok m) = m.taken
+took_by (Err e) = 0
 
-abbrev pub next_by : Streamed → StreamingDecoder
-next_by (Streamed.Moved taken written status next) = next
-next_by (Streamed.Refused q s) = s
+abbrev pub next_by : Result Streamed (Refused StreamingDecoder) → StreamingDecoder
+next_by (Ok m) = m.next
+next_by (Err e) = e.state
 
 module _ (lent : List ℕ) where
   -- one call more, its source the lent bytes from the first not yet taken

@@ -1,9 +1,8 @@
 -- Within a call: what the stream's own functions promise each other. Document 01 says nothing of it.
-use Rattle.std.specs.Prelude.{ℕ, ◌+◌, ◌-◌, ◌*◌, ◌/◌, ◌%◌, ◌^◌, ◌≤◌, ◌<◌, min, ◌≡◌, List, ◌++◌, map, length, drop}
-use Rattle.bits.specs.Tables.{tabulate, at}
-use Rattle.bits.specs.Streams.{word, fields}
-use Rattle.bits.specs.Memory.{put_at}
-use Rattle.streaming.specs.Stream.{reads_by, source_bits, used, status_for}
+use Rattle.std.specs.Prelude.{ℕ, ◌+◌, ◌-◌, ◌*◌, ◌/◌, ◌≤◌, ◌<◌, min, ◌≡◌, List, ◌++◌, length, drop}
+use Rattle.bits.specs.Tables.{tabulate}
+use Rattle.bits.specs.Streams.{word}
+use Rattle.streaming.specs.Stream.{reads_by, source_bits, used, status_for, bases_of, moved_by}
 use Rattle.streaming.specs.declared.decoder.StreamingDecoder.{StreamingDecoder}
 use Rattle.streaming.specs.declared.decoder.Streamed.{Streamed}
 use Rattle.streaming.specs.declared.flow.Flow.{Flow}
@@ -22,12 +21,6 @@ pub record Level (s : StreamingDecoder) (source : List ℕ) (acc have taken n : 
   pub within : taken ≤ length source
   pub held : acc ≡ word (source_bits s source) (used s n) have
 
--- before the first base: no byte is taken that the skip does not need
-pub record Opened (s : StreamingDecoder) (source : List ℕ) (f : Flow) : Type 0 where
-  pub few : f.have < 8
-  pub none : f.written ≡ 0
-  pub level : Level s source f.acc f.have f.taken 0
-
 -- with bases written, not more than budget and space allow, fewer bits are at hand than a byte has
 pub record Stands (s : StreamingDecoder) (source : List ℕ) (room : ℕ) (f : Flow) : Type 0 where
   pub few : f.have < 8
@@ -37,32 +30,22 @@ pub record Stands (s : StreamingDecoder) (source : List ℕ) (room : ℕ) (f : F
 -- the answer where the loops of a call end, with n bases written and output memory for `room`
 unfoldable pub answered_by : StreamingDecoder → ℕ → ℕ → ℕ → ℕ → ℕ → Streamed
 answered_by s acc have taken n room =
-    Streamed.Moved taken n (status_for (s.budget - n) (room - n))
-    (record { alphabet = s.alphabet; skip = 0; budget = s.budget - n; bits = have; pending = acc })
+    record {
+      taken = taken;
+      written = n;
+      status = status_for (s.budget - n) (room - n);
+      next = record { alphabet = s.alphabet; skip = 0; budget = s.budget - n; bits = have; pending = acc };
+    }
 
--- ---- a block of eight bases
+-- a call's answer and memory once all of its bases are written
+abbrev pub all_moved : StreamingDecoder → List ℕ → ℕ → Streamed
+all_moved s source room = moved_by s source room (bases_of s source room)
 
--- a packed alphabet's width and its decoding table
-pub record Reads (s : StreamingDecoder) (table : List ℕ) (b : ℕ) : Type 0 where
-  pub wide : b ≡ (reads_by s).width
-  pub some : 1 < b
-  pub five : b ≤ 5
-  pub entries : table ≡ tabulate 32 (reads_by s).symbol
+abbrev pub all_filled : StreamingDecoder → List ℕ → List ℕ → List ℕ
+all_filled s source memory = filled s source (bases_of s source (length memory)) memory
+
+-- ---- blocks of eight bases
 
 -- how many bases the blocks of a call write: budget and space allow for as many blocks, and the source's bytes suffice for as many
 abbrev pub count_in_blocks : StreamingDecoder → List ℕ → ℕ → ℕ → ℕ
 count_in_blocks s source room taken = min (min s.budget room / 8) ((length source - taken) / (reads_by s).width) * 8
-
--- memory with the eight bases from place n on whose codes, b bits wide, the low bits of a number write
-unfoldable pub with_block : List ℕ → ℕ → ℕ → ℕ → List ℕ → List ℕ
-with_block table b w n memory = put_at n (map (at table) (fields b 8 w)) memory
-
--- a table's entries two by two, at each number below `all` that two codes write: the first code's in the low half
-abbrev pub Paired : List ℕ → ℕ → ℕ → List ℕ → Type 0
-Paired table b all rows = (v : ℕ) → v < all → (at rows v % 256 ≡ at table (v / 2 ^ b % 2 ^ b)) × (at rows v / 256 ≡ at table (v % 2 ^ b))
-
--- ---- a run of bytes
-
--- memory with `count` source bytes from place `from` on at its front
-unfoldable pub with_run : List ℕ → ℕ → ℕ → List ℕ → List ℕ
-with_run source from count memory = tabulate count (λ i. at source (from + i)) ++ drop count memory

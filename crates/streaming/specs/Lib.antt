@@ -1,4 +1,5 @@
 pub mod Stream
 pub mod Answers
 pub mod Count
+pub mod Symbols
 pub mod Flow

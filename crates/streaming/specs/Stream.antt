@@ -1,18 +1,19 @@
 -- The stream. States document 01, "Top: the stream", for one call from any state, and questions 1, 3, 4 and 7.
-use Rattle.std.specs.Prelude.{ℕ, zero, suc, ◌+◌, ◌-◌, ◌*◌, ◌^◌, min, Bool, cond, ◌&&◌, ◌||◌, List, [], ◌∷◌, map, leb, ltb, eqb, length}
+use Rattle.std.specs.Prelude.{ℕ, zero, suc, ◌+◌, ◌-◌, ◌*◌, ◌^◌, min, Bool, cond, ◌&&◌, ◌||◌, List, [], ◌∷◌, map, leb, ltb, eqb, length, Result, Ok, Err}
 use Rattle.alphabet.specs.declared.kind.AlphabetType.{AlphabetType}
+use Rattle.alphabet.specs.declared.refusal.Refusal.{Refusal}
+use Rattle.alphabet.specs.declared.refusal.Refused.{Refused}
 use Rattle.alphabet.specs.Questions.{ask◌else◌then◌, by}
+use Rattle.alphabet.specs.Refusing.{◌keeping◌}
 use Rattle.alphabet.specs.Symbols.{Coding, coding}
 use Rattle.alphabet.specs.Names.{known, kind_of}
 use Rattle.bits.specs.Streams.{word, cut}
 use Rattle.bits.specs.Packing.{bytes_for, at_hand}
 use Rattle.bits.specs.Memory.{front}
 use Rattle.streaming.specs.declared.decoder.StreamingDecoder.{StreamingDecoder}
-use Rattle.streaming.specs.declared.decoder.Status.{Status}
-use Rattle.streaming.specs.declared.decoder.Status.TheVariants.{Hungry, Done, Full}
-use Rattle.streaming.specs.declared.decoder.StreamStarted.{StreamStarted}
+use Rattle.streaming.specs.declared.status.Status.{Status}
+use Rattle.streaming.specs.declared.status.Status.TheVariants.{Hungry, Done, Full}
 use Rattle.streaming.specs.declared.decoder.Streamed.{Streamed}
-use Rattle.streaming.specs.declared.decoder.Ended.{Ended}
 
 -- ---- the state
 
@@ -31,11 +32,11 @@ sound_stream s = ltb s.skip 8 && ltb s.bits 8 && ltb s.pending (2 ^ s.bits) && (
 -- ---- `new`
 
 -- asked: alphabet number, skip
-unfoldable pub start_stream_at : ℕ → ℕ → ℕ → StreamStarted
+unfoldable pub start_stream_at : ℕ → ℕ → ℕ → Result StreamingDecoder Refusal
 start_stream_at alphabet skip budget =
-    ask known alphabet else StreamStarted.Refused (by 8 []) then
-    ask ltb skip 8 else StreamStarted.Refused (by 6 []) then
-    StreamStarted.Fresh (fresh_stream (kind_of alphabet) skip budget)
+    ask known alphabet else Err (by 8 []) then
+    ask ltb skip 8 else Err (by 6 []) then
+    Ok (fresh_stream (kind_of alphabet) skip budget)
 
 -- ---- a stream call
 
@@ -77,20 +78,23 @@ moved s source n =
 
 -- the answer of a call that writes n bases
 unfoldable pub moved_by : StreamingDecoder → List ℕ → ℕ → ℕ → Streamed
-moved_by s source room n = Streamed.Moved (takes s n) n (status_for (s.budget - n) (room - n)) (moved s source n)
+moved_by s source room n = record { taken = takes s n; written = n; status = status_for (s.budget - n) (room - n); next = moved s source n }
+
+-- the answer with the skip due and no source
+abbrev pub waiting : StreamingDecoder → Streamed
+waiting s = record { taken = 0; written = 0; status = Hungry; next = s }
 
 -- asked: state; then, with the skip due and no source, Hungry at once
-unfoldable pub stream_at : StreamingDecoder → List ℕ → ℕ → Streamed
+unfoldable pub stream_at : StreamingDecoder → List ℕ → ℕ → Result Streamed (Refused StreamingDecoder)
 stream_at s source room =
-    ask sound_stream s else Streamed.Refused (by 1 []) s then
-    ask eqb s.skip 0 || ltb 0 (length source) else Streamed.Moved 0 0 Hungry s then
-    moved_by s source room (bases_of s source room)
+    ask sound_stream s else Err (by 1 [] keeping s) then
+    ask eqb s.skip 0 || ltb 0 (length source) else Ok (waiting s) then
+    Ok (moved_by s source room (bases_of s source room))
 
 -- the bases that an answer writes
-unfoldable pub stream_writes : StreamingDecoder → List ℕ → Streamed → List ℕ
-stream_writes s source (Streamed.Moved taken written status next) =
-    map (reads_by s).symbol (cut (reads_by s).width (source_bits s source) s.skip written)
-stream_writes s source (Streamed.Refused q next) = []
+unfoldable pub stream_writes : StreamingDecoder → List ℕ → Result Streamed (Refused StreamingDecoder) → List ℕ
+stream_writes s source (Ok m) = map (reads_by s).symbol (cut (reads_by s).width (source_bits s source) s.skip m.written)
+stream_writes s source (Err e) = []
 
 -- the output memory afterwards
 unfoldable pub stream_memory : StreamingDecoder → List ℕ → List ℕ → List ℕ
@@ -99,8 +103,8 @@ stream_memory s source memory = front (stream_writes s source (stream_at s sourc
 -- ---- the end call
 
 -- asked: state; then, that the skip is done and the budget used, else refused by 7 with the bases outstanding
-unfoldable pub end_at : StreamingDecoder → Ended
+unfoldable pub end_at : StreamingDecoder → Result Unit (Refused StreamingDecoder)
 end_at s =
-    ask sound_stream s else Ended.Refused (by 1 []) s then
-    ask eqb s.skip 0 && eqb s.budget 0 else Ended.Refused (by 7 (s.budget ∷ [])) s then
-    Ended.Complete
+    ask sound_stream s else Err (by 1 [] keeping s) then
+    ask eqb s.skip 0 && eqb s.budget 0 else Err (by 7 (s.budget ∷ []) keeping s) then
+    Ok tt

@@ -1,12 +1,14 @@
 // The stream's state and calls.
-ghost use Rattle.std.specs.Prelude.{◌||◌, ◌≡◌, eqb, ltb, length};
+ghost use Rattle.std.specs.Prelude.{◌||◌, ◌≡◌, eqb, ltb, length, Result};
 ghost use Rattle.streaming.specs.Stream.{sound_stream, start_stream_at, stream_at, stream_memory, end_at};
 
-use crate::flow::{carry, opened, pump};
-use alphabet::{AlphabetType, Named, Refusal, kind_of_number};
+use crate::flow::{carry, pump};
+use crate::opening::Opening;
+use crate::status::Status;
+use alphabet::{AlphabetType, Refusal, Refused};
 
 // `skip` bits are to be passed over first (0: done, or never due); `budget` bases are to come; `bits` bits, of value `pending`, are taken and not used.
-#[derive(Clone, Copy)]
+#[derive(Clone, Copy, Debug, PartialEq, Eq, Hash)]
 pub struct StreamingDecoder {
     pub alphabet: AlphabetType,
     pub skip: u8,
@@ -15,52 +17,26 @@ pub struct StreamingDecoder {
     pub pending: u8,
 }
 
-#[derive(Clone, Copy)]
-pub enum Status {
-    Hungry,
-    Done,
-    Full,
-}
-
-// What `StreamingDecoder::new` answers.
-#[derive(Clone, Copy)]
-pub enum StreamStarted {
-    Fresh(StreamingDecoder),
-    Refused(Refusal),
-}
-
-// What a stream call answers: bytes taken, bases written, status and next state.
-#[derive(Clone, Copy)]
-pub enum Streamed {
-    Moved {
-        taken: usize,
-        written: usize,
-        status: Status,
-        next: StreamingDecoder,
-    },
-    Refused(Refusal, StreamingDecoder),
-}
-
-// What the end call answers.
-#[derive(Clone, Copy)]
-pub enum Ended {
-    Complete,
-    Refused(Refusal, StreamingDecoder),
+// What a stream call did: bytes taken, bases written, status and next state.
+#[derive(Clone, Copy, Debug, PartialEq, Eq, Hash)]
+pub struct Streamed {
+    pub taken: usize,
+    pub written: usize,
+    pub status: Status,
+    pub next: StreamingDecoder,
 }
 
 impl StreamingDecoder {
     // A stream that has taken nothing. A number above 5 is refused by 8, a skip above 7 by 6.
-    pub fn new(alphabet: u64, skip: u64, budget: u64) -> StreamStarted
+    pub fn new(alphabet: u64, skip: u64, budget: u64) -> Result<StreamingDecoder, Refusal>
         ensures { result ≡ start_stream_at alphabet skip budget }
     {
-        let Named::Kind(kind) = kind_of_number(alphabet) else {
-            return StreamStarted::Refused(Refusal::NoAlphabet);
-        };
+        let alphabet = AlphabetType::try_from(alphabet)?;
         if 8 <= skip {
-            return StreamStarted::Refused(Refusal::BadSkip);
+            return Err(Refusal::BadSkip);
         }
-        StreamStarted::Fresh(StreamingDecoder {
-            alphabet: kind,
+        Ok(StreamingDecoder {
+            alphabet,
             skip: skip as u8,
             budget,
             bits: 0,
@@ -78,7 +54,7 @@ impl StreamingDecoder {
         if 8 <= self.bits {
             return false;
         }
-        if (1u64 << (self.bits as usize)) <= (self.pending as u64) {
+        if (1u64 << usize::from(self.bits)) <= u64::from(self.pending) {
             return false;
         }
         self.skip == 0 || self.bits == 0
@@ -92,43 +68,43 @@ impl StreamingDecoder {
     }
 
     // The bases that the source's bytes give, at the front of the memory; an unsound state is refused by 1 and comes back as it was.
-    pub fn read(self, source: &[u8], out: &mut [u8]) -> Streamed
+    pub fn read(self, source: &[u8], out: &mut [u8]) -> Result<Streamed, Refused<StreamingDecoder>>
         ensures value { result ≡ stream_at self source.now (length out.old) }
         ensures out_after { out.new ≡ stream_memory self source.now out.old }
     {
         if !self.is_sound() {
-            return Streamed::Refused(Refusal::Unsound, self);
+            return Err(Refusal::Unsound.keeping(self));
         }
         if !self.can_begin(source.len()) {
-            return Streamed::Moved {
+            return Ok(Streamed {
                 taken: 0,
                 written: 0,
                 status: Status::Hungry,
                 next: self,
-            };
+            });
         }
-        let start = opened(self, source);
+        let start = Opening::of(self, source);
         let kind = self.alphabet;
         if kind.bits_per_symbol() == 8 {
-            return carry(self, source, start, out);
+            return Ok(carry(start, out));
         }
-        pump(self, source, start, out)
+        Ok(pump(start, out))
     }
 
     // The end of the stream: with the skip due or bases to come it is refused by 7, with the bases outstanding. A state that is
     // refused comes back as it was.
-    pub fn end(self) -> Ended
+    pub fn end(self) -> Result<(), Refused<StreamingDecoder>>
         ensures { result ≡ end_at self }
     {
         if !self.is_sound() {
-            return Ended::Refused(Refusal::Unsound, self);
+            return Err(Refusal::Unsound.keeping(self));
         }
         if 0 < self.skip {
-            return Ended::Refused(Refusal::Outstanding(self.budget), self);
+            return Err(Refusal::Outstanding(self.budget).keeping(self));
         }
         if 0 < self.budget {
-            return Ended::Refused(Refusal::Outstanding(self.budget), self);
+            return Err(Refusal::Outstanding(self.budget).keeping(self));
         }
-        Ended::Complete
+        Ok(())
     }
 }

@@ -1,14 +1,16 @@
-// Within a call: the bits at hand, and the loops that cut bases from them.
-ghost use Rattle.std.specs.Prelude.{true, ◌||◌, List, ◌≡◌, ℕ, ◌+◌, ◌*◌, ◌/◌, ◌%◌, ◌^◌, ◌<◌, ◌≤◌, min, eqb, ltb, length};
-ghost use Rattle.alphabet.specs.Symbols.{Coding};
+// Within a call: the loops that cut bases from the bits at hand.
+ghost use Rattle.std.specs.Prelude.{◌≡◌, ℕ, ◌+◌, ◌*◌, ◌^◌, ◌<◌, ◌≤◌, min, length};
 ghost use Rattle.bits.specs.Tables.{at};
 ghost use Rattle.bits.specs.Streams.{bit_at, word};
-ghost use Rattle.streaming.specs.Stream.{sound_stream, reads_by, status_for, bases_of, moved_by};
-ghost use Rattle.streaming.specs.Flow.{Opened, Reads, Stands, Paired, count_in_blocks, answered_by, filled, with_block, with_run};
+ghost use Rattle.bits.specs.Memory.{front};
+ghost use Rattle.streaming.specs.Stream.{reads_by};
+ghost use Rattle.streaming.specs.Flow.{Stands, count_in_blocks, answered_by, filled, all_moved, all_filled};
 
-use crate::decoder::{Status, Streamed, StreamingDecoder};
-use alphabet::decoding_array;
-use bits::{beyond, byte_at, field, least, low, power, push_byte};
+use crate::decoder::{Streamed, StreamingDecoder};
+use crate::opening::Opening;
+use crate::status::Status;
+use crate::symbols::{Singles, Symbols};
+use bits::{byte_at, field, low, power, push_byte};
 
 // What clearing the memory for pairs of symbols costs, told in pairs that are laid out.
 const CLEARED: usize = 64;
@@ -22,345 +24,223 @@ pub(crate) struct Flow {
     pub written: usize,
 }
 
-// The bits at hand before the first base: those that pend or, with the skip due, those of the first byte that the skip leaves.
-pub(crate) fn opened(s: StreamingDecoder, source: &[u8]) -> Flow
-    requires { (sound_stream s ≡ true) × ((eqb s.skip 0 || ltb 0 (length source.now)) ≡ true) }
-    ensures { Opened s source.now result }
-{
-    let skip = s.skip as usize;
-    if skip == 0 {
-        return Flow {
-            acc: s.pending as u64,
-            have: s.bits as usize,
-            taken: 0,
-            written: 0,
-        };
-    }
-    let have = 8 - skip;
-    Flow {
-        acc: low(source[0] as u64, have),
-        have,
-        taken: 1,
-        written: 0,
-    }
+// A call on a packed alphabet, whose codes are B bits wide.
+#[derive(Clone, Copy)]
+struct Packed<'a, const B: usize> {
+    start: Opening<'a>,
+    symbols: Singles<B>,
+    ghost same: { symbols.table.kind ≡ start.state.alphabet },
 }
 
-// The status once the skip is done, from the budget and the space that are left.
-fn status_of(budget: u64, room: usize) -> Status
-    ensures { result ≡ status_for budget room }
+// The answer where the loops of a call end, with output memory for `room`.
+fn answered(state: StreamingDecoder, end: Flow, room: usize) -> Streamed
+    requires most { end.written ≤ min state.budget room }
+    requires few { end.have < 8 }
+    requires small { end.acc < 2 ^ 8 }
+    ensures { result ≡ answered_by state end.acc end.have end.taken end.written room }
 {
-    if budget == 0 {
-        return Status::Done;
-    }
-    if room == 0 {
-        return Status::Full;
-    }
-    Status::Hungry
-}
-
-// The answer where the loops of a call end: n bases written, and output memory for `room`.
-fn answered(
-    s: StreamingDecoder,
-    acc: u64,
-    have: usize,
-    taken: usize,
-    n: usize,
-    room: usize,
-) -> Streamed
-    requires { (n ≤ min s.budget room) × ((have < 8) × (acc < 2 ^ 8)) }
-    ensures { result ≡ answered_by s acc have taken n room }
-{
-    let kind = s.alphabet;
-    let budget = s.budget - n as u64;
-    Streamed::Moved {
-        taken,
-        written: n,
-        status: status_of(budget, room - n),
+    let budget = state.budget - end.written as u64;
+    Streamed {
+        taken: end.taken,
+        written: end.written,
+        status: Status::of(budget, room - end.written),
         next: StreamingDecoder {
-            alphabet: kind,
+            alphabet: state.alphabet,
             skip: 0,
             budget,
-            bits: have as u8,
-            pending: acc as u8,
+            bits: end.have as u8,
+            pending: end.acc as u8,
         },
     }
 }
 
-// A number with m source bytes behind it. The bytes are joined by themselves first, so that the compiler may load them at once.
-fn gather(source: &[u8], from: usize, m: usize, acc: u64) -> u64
-    requires { (acc < 2 ^ 8) × ((m ≤ 5) × (from + m ≤ length source.now)) }
-    ensures { result ≡ acc * 2 ^ (m * 8) + word (bit_at 8 (at source.now)) (from * 8) (m * 8) }
+// A number with bytes behind it. The bytes are joined by themselves first, so that the compiler may load them at once.
+fn gather(bytes: &[u8], acc: u64) -> u64
+    requires small { acc < 2 ^ 8 }
+    requires few { length bytes.now ≤ 5 }
+    ensures { result ≡ acc * 2 ^ (length bytes.now * 8) + word (bit_at 8 (at bytes.now)) 0 (length bytes.now * 8) }
 {
     let mut bits: u64 = 0;
-    for i in 0..m {
-        bits = push_byte(bits, source[from + i]);
+    for byte in bytes {
+        bits = push_byte(bits, *byte);
     }
-    acc * power(m * 8) + bits
+    acc * power(bytes.len() * 8) + bits
 }
 
-// Two bytes as one number, the first in its low half.
-fn pair(x: u8, y: u8) -> u16
-    ensures { (result % 256 ≡ x) × (result / 256 ≡ y) }
-{
-    (x as u16) + (y as u16) * 256
-}
-
-// The second of the two.
-fn upper(pair: u16) -> u8
-    ensures { result ≡ pair / 256 }
-{
-    (pair / 256) as u8
-}
-
-// The table's entries two by two: at each number of twice a code's bits, those of the two codes that it writes.
-fn pairs(table: &[u8; 32], b: usize) -> [u16; 1024]
-    requires { b ≤ 5 }
-    ensures { Paired table.now b (2 ^ (b * 2)) result }
-{
-    let mut rows = [0u16; 1024];
-    let all = power(b * 2) as usize;
-    for v in 0..all {
-        rows[v] = pair(
-            table[field(v as u64, b, b)],
-            table[low(v as u64, b) as usize],
-        );
-    }
-    rows
-}
-
-// Eight bases in memory from place n on: those whose codes, b bits wide, the low bits of a number write.
-fn spread(table: &[u8; 32], b: usize, w: u64, out: &mut [u8], n: usize)
-    requires { (b ≤ 5) × (n + 8 ≤ length out.old) }
-    ensures { out.new ≡ with_block table.now b w n out.old }
-{
-    for t in 0..8usize {
-        out[n + t] = table[field(w, (7 - t) * b, b)];
-    }
-}
-
-// The same by pairs, whose table they were laid out from.
-fn spread_pairs(rows: &[u16; 1024], b: usize, w: u64, out: &mut [u8], n: usize)
-    requires { (b ≤ 5) × (n + 8 ≤ length out.old) }
-    ensures { (table : List ℕ) → Paired table b (2 ^ (b * 2)) rows.now → out.new ≡ with_block table b w n out.old }
-{
-    for t in 0..4usize {
-        let row = rows[field(w, (3 - t) * (b * 2), b * 2)];
-        out[n + t * 2] = (row % 256) as u8;
-        out[n + (t * 2 + 1)] = upper(row);
-    }
-}
-
-// The same by pairs or not: the choice is a literal where blocks are read, and costs no test there.
-fn put_block(
-    table: &[u8; 32],
-    rows: &[u16; 1024],
-    paired: bool,
-    b: usize,
-    w: u64,
-    out: &mut [u8],
-    n: usize,
-)
-    requires { (paired ≡ true → Paired table.now b (2 ^ (b * 2)) rows.now) × ((b ≤ 5) × (n + 8 ≤ length out.old)) }
-    ensures { out.new ≡ with_block table.now b w n out.old }
-{
-    if paired {
-        spread_pairs(rows, b, w, out, n);
-        return;
-    }
-    spread(table, b, w, out, n);
-}
-
-// Blocks of eight bases, as many as budget, space and source allow. Eight bases use the bits of as many bytes as a base has bits, so a block leaves as many bits at
-// hand as it found.
-fn blocks(
-    s: StreamingDecoder,
-    table: &[u8; 32],
-    rows: &[u16; 1024],
-    paired: bool,
-    b: usize,
-    source: &[u8],
-    start: Flow,
-    out: &mut [u8],
-) -> Flow
-    requires { (Reads s table.now b × (paired ≡ true → Paired table.now b (2 ^ (b * 2)) rows.now)) × Opened s source.now start }
-    ensures stands { Stands s source.now (length out.old) result × (result.written ≡ count_in_blocks s source.now (length out.old) start.taken) }
-    ensures out_after { out.new ≡ filled s source.now result.written out.old }
-{
-    let have = start.have;
-    let from = start.taken;
-    let mut acc = start.acc;
-    let limit = least(s.budget as usize, out.len());
-    let count = least(limit / 8, (source.len() - from) / b);
-    for k in 0..count {
-        let bits = gather(source, from + k * b, b, acc);
-        put_block(table, rows, paired, b, bits >> have, out, k * 8);
-        acc = low(bits, have);
-    }
-    Flow {
-        acc,
-        have,
-        taken: from + count * b,
-        written: count * 8,
-    }
-}
-
-// Blocks by single symbols. Each width has a call of its own, with literals, so that the compiler makes a loop of its own for it, in which every shift but one is by
-// a literal; the memory for pairs, which no such loop reads, falls away.
-fn by_ones(
-    s: StreamingDecoder,
-    table: &[u8; 32],
-    b: usize,
-    source: &[u8],
-    start: Flow,
-    out: &mut [u8],
-) -> Flow
-    requires { Reads s table.now b × Opened s source.now start }
-    ensures stands { Stands s source.now (length out.old) result × (result.written ≡ count_in_blocks s source.now (length out.old) start.taken) }
-    ensures out_after { out.new ≡ filled s source.now result.written out.old }
-{
-    let none = [0u16; 1024];
-    if b == 2 {
-        return blocks(s, table, &none, false, 2, source, start, out);
-    }
-    if b == 3 {
-        return blocks(s, table, &none, false, 3, source, start, out);
-    }
-    if b == 4 {
-        return blocks(s, table, &none, false, 4, source, start, out);
-    }
-    blocks(s, table, &none, false, 5, source, start, out)
-}
-
-// The same by pairs.
-fn by_pairs(
-    s: StreamingDecoder,
-    table: &[u8; 32],
-    rows: &[u16; 1024],
-    b: usize,
-    source: &[u8],
-    start: Flow,
-    out: &mut [u8],
-) -> Flow
-    requires { (Reads s table.now b × Paired table.now b (2 ^ (b * 2)) rows.now) × Opened s source.now start }
-    ensures stands { Stands s source.now (length out.old) result × (result.written ≡ count_in_blocks s source.now (length out.old) start.taken) }
-    ensures out_after { out.new ≡ filled s source.now result.written out.old }
-{
-    if b == 2 {
-        return blocks(s, table, rows, true, 2, source, start, out);
-    }
-    if b == 3 {
-        return blocks(s, table, rows, true, 3, source, start, out);
-    }
-    if b == 4 {
-        return blocks(s, table, rows, true, 4, source, start, out);
-    }
-    blocks(s, table, rows, true, 5, source, start, out)
-}
-
-// The blocks of a call, if it has any: by pairs where it is long. To lay a pair out costs about what four bases gain by pairs, and four bases take one source byte to
-// two and a half.
-fn bulk(
-    s: StreamingDecoder,
-    table: &[u8; 32],
-    b: usize,
-    source: &[u8],
-    start: Flow,
-    out: &mut [u8],
-) -> Flow
-    requires { Reads s table.now b × Opened s source.now start }
-    ensures stands { Stands s source.now (length out.old) result × (result.written ≡ count_in_blocks s source.now (length out.old) start.taken) }
-    ensures out_after { out.new ≡ filled s source.now result.written out.old }
-{
-    let limit = least(s.budget as usize, out.len());
-    if limit < 8 {
-        return start;
-    }
-    if beyond(least(limit / 4, source.len() / 2), CLEARED) < power(b * 2) as usize {
-        return by_ones(s, table, b, source, start, out);
-    }
-    let rows = pairs(table, b);
-    by_pairs(s, table, &rows, b, source, start, out)
-}
-
-// The rest, one base at a time, and the answer. A byte is taken only for a base that is due, has space and lacks bits.
-fn finish(
-    s: StreamingDecoder,
-    table: &[u8; 32],
-    b: usize,
-    source: &[u8],
-    start: Flow,
-    out: &mut [u8],
-) -> Streamed
-    requires { (Reads s table.now b × (s.bits < 8)) × (Stands s source.now (length out.old) start × (out.old ≡ filled s source.now start.written out.old)) }
-    ensures value { result ≡ moved_by s source.now (length out.old) (bases_of s source.now (length out.old)) }
-    ensures out_after { out.new ≡ filled s source.now (bases_of s source.now (length out.old)) out.old }
-{
-    let limit = least(s.budget as usize, out.len());
-    let mut acc = start.acc;
-    let mut have = start.have;
-    let mut taken = start.taken;
-    let mut n = start.written;
-    while n < limit {
-        if have < b {
-            if taken == source.len() {
-                break;
-            }
-            acc = push_byte(acc, source[taken]);
-            taken += 1;
-            have += 8;
+impl<'a, const B: usize> Packed<'a, B> {
+    fn of(start: Opening<'a>) -> Self
+        requires wide { (reads_by start.state).width ≡ B }
+        requires some { 1 < B }
+        requires five { B ≤ 5 }
+        ensures state { result.start.state ≡ start.entry.state }
+        ensures source { result.start.source.now ≡ start.entry.source.now }
+    {
+        Packed {
+            start,
+            symbols: Singles::of(start.state.alphabet),
         }
-        have -= b;
-        out[n] = table[field(acc, have, b)];
-        acc = low(acc, have);
-        n += 1;
     }
-    answered(s, acc, have, taken, n, out.len())
+
+    // Blocks of eight bases, as many as budget, space and source allow. Eight bases use the bits of as many bytes as a base has bits, so a block leaves as many bits at
+    // hand as it found. Each width, and each way to look symbols up, has a copy of its own, in which every shift but one is by a literal.
+    fn blocks<T: Symbols<B>>(&self, by: &T, out: &mut [u8]) -> Flow
+        requires { T.reads by.now ≡ self.now.symbols.table.kind }
+        ensures stands { Stands self.now.start.state self.now.start.source.now (length out.old) result }
+        ensures count { result.written ≡ count_in_blocks self.now.start.state self.now.start.source.now (length out.old) self.now.start.flow.taken }
+        ensures out_after { out.new ≡ filled self.now.start.state self.now.start.source.now result.written out.old }
+    {
+        let source = self.start.source;
+        let have = self.start.flow.have;
+        let from = self.start.flow.taken;
+        let mut acc = self.start.flow.acc;
+        let count = (self.start.limit(out.len()) / 8).min((source.len() - from) / B);
+        for k in 0..count {
+            let next = from + k * B;
+            let bits = gather(&source[next..next + B], acc);
+            by.put_block(bits >> have, &mut out[k * 8..k * 8 + 8]);
+            acc = low(bits, have);
+        }
+        Flow {
+            acc,
+            have,
+            taken: from + count * B,
+            written: count * 8,
+        }
+    }
+
+    // The blocks of a call, if it has any: by pairs where it is long. To lay a pair out costs about what four bases gain by pairs, and four bases take one source byte to
+    // two and a half.
+    fn bulk(&self, out: &mut [u8]) -> Flow
+        ensures stands { Stands self.now.start.state self.now.start.source.now (length out.old) result }
+        ensures count { result.written ≡ count_in_blocks self.now.start.state self.now.start.source.now (length out.old) self.now.start.flow.taken }
+        ensures out_after { out.new ≡ filled self.now.start.state self.now.start.source.now result.written out.old }
+    {
+        let start = self.start;
+        let limit = start.limit(out.len());
+        if limit < 8 {
+            return start.flow;
+        }
+        if (limit / 4)
+            .min(start.source.len() / 2)
+            .saturating_sub(CLEARED)
+            < power(B * 2) as usize
+        {
+            return self.blocks(&self.symbols, out);
+        }
+        self.blocks(&self.symbols.paired(), out)
+    }
+
+    // The rest, one base at a time, and the answer. A byte is taken only for a base that is due, has space and lacks bits.
+    fn finish(&self, from: Flow, out: &mut [u8]) -> Streamed
+        requires stands { Stands self.now.start.state self.now.start.source.now (length out.old) from }
+        requires written { out.old ≡ filled self.now.start.state self.now.start.source.now from.written out.old }
+        ensures value { result ≡ all_moved self.now.start.state self.now.start.source.now (length out.old) }
+        ensures out_after { out.new ≡ all_filled self.now.start.state self.now.start.source.now out.old }
+    {
+        let state = self.start.state;
+        let source = self.start.source;
+        let limit = self.start.limit(out.len());
+        let mut acc = from.acc;
+        let mut have = from.have;
+        let mut taken = from.taken;
+        for n in from.written..limit {
+            if have < B {
+                if taken == source.len() {
+                    let end = Flow {
+                        acc,
+                        have,
+                        taken,
+                        written: n,
+                    };
+                    return answered(state, end, out.len());
+                }
+                acc = push_byte(acc, source[taken]);
+                taken += 1;
+                have += 8;
+            }
+            have -= B;
+            out[n] = self.symbols.table.symbols[field(acc, have, B)];
+            acc = low(acc, have);
+        }
+        let end = Flow {
+            acc,
+            have,
+            taken,
+            written: limit,
+        };
+        answered(state, end, out.len())
+    }
+
+    // The bases of the call: in blocks, and then one at a time.
+    fn bases(&self, out: &mut [u8]) -> Streamed
+        ensures value { result ≡ all_moved self.now.start.state self.now.start.source.now (length out.old) }
+        ensures out_after { out.new ≡ all_filled self.now.start.state self.now.start.source.now out.old }
+    {
+        let whole = self.bulk(out);
+        self.finish(whole, out)
+    }
 }
 
-// The bases of a packed alphabet: in blocks, and then one at a time.
-pub(crate) fn pump(s: StreamingDecoder, source: &[u8], start: Flow, out: &mut [u8]) -> Streamed
-    requires { (((reads_by s).width ≤ 5) × (s.bits < 8)) × Opened s source.now start }
-    ensures value { result ≡ moved_by s source.now (length out.old) (bases_of s source.now (length out.old)) }
-    ensures out_after { out.new ≡ filled s source.now (bases_of s source.now (length out.old)) out.old }
+// The bases of a packed alphabet, by its width.
+pub(crate) fn pump(start: Opening<'_>, out: &mut [u8]) -> Streamed
+    requires { (reads_by start.state).width ≤ 5 }
+    ensures value { result ≡ all_moved start.entry.state start.entry.source.now (length out.old) }
+    ensures out_after { out.new ≡ all_filled start.entry.state start.entry.source.now out.old }
 {
-    let kind = s.alphabet;
-    let b = kind.bits_per_symbol();
-    let table = decoding_array(kind);
-    let whole = bulk(s, &table, b, source, start, out);
-    finish(s, &table, b, source, whole, out)
+    match start.state.alphabet.bits_per_symbol() {
+        2 => Packed::<2>::of(start).bases(out),
+        3 => Packed::<3>::of(start).bases(out),
+        4 => Packed::<4>::of(start).bases(out),
+        _ => Packed::<5>::of(start).bases(out),
+    }
 }
 
-// A run of source bytes at the front of memory.
-fn copy(source: &[u8], from: usize, count: usize, out: &mut [u8])
-    requires { (from + count ≤ length source.now) × (count ≤ length out.old) }
-    ensures { out.new ≡ with_run source.now from count out.old }
+// A run of bytes at the front of memory. `copy_from_slice` would be plainer: it was measured, and calls the C library, which takes up to 1.7 of the loop's time where a
+// read fills 64 KiB.
+fn copy(bytes: &[u8], out: &mut [u8])
+    requires { length bytes.now ≤ length out.old }
+    ensures { out.new ≡ front bytes.now out.old }
 {
-    for i in 0..count {
-        out[i] = source[from + i];
+    for (n, byte) in bytes.iter().enumerate() {
+        out[n] = *byte;
     }
 }
 
 // The bases of an alphabet of whole bytes. Each base takes a byte, so as many bits stay at hand; with none, bases are bytes as
 // they come.
-pub(crate) fn carry(s: StreamingDecoder, source: &[u8], start: Flow, out: &mut [u8]) -> Streamed
-    requires { (((reads_by s).width ≡ 8) × ((c : ℕ) → (reads_by s).symbol c ≡ c)) × ((s.bits < 8) × Opened s source.now start) }
-    ensures value { result ≡ moved_by s source.now (length out.old) (bases_of s source.now (length out.old)) }
-    ensures out_after { out.new ≡ filled s source.now (bases_of s source.now (length out.old)) out.old }
+pub(crate) fn carry(start: Opening<'_>, out: &mut [u8]) -> Streamed
+    requires eight { (reads_by start.state).width ≡ 8 }
+    requires same { (c : ℕ) → (reads_by start.state).symbol c ≡ c }
+    ensures value { result ≡ all_moved start.entry.state start.entry.source.now (length out.old) }
+    ensures out_after { out.new ≡ all_filled start.entry.state start.entry.source.now out.old }
 {
-    let have = start.have;
-    let from = start.taken;
-    let limit = least(s.budget as usize, out.len());
-    let count = least(limit, source.len() - from);
+    let source = start.source;
+    let have = start.flow.have;
+    let from = start.flow.taken;
+    let limit = start.limit(out.len());
+    let count = limit.min(source.len() - from);
     let taken = from + count;
     if have == 0 {
-        copy(source, from, count, out);
-        return answered(s, 0, 0, taken, count, out.len());
+        copy(&source[from..taken], out);
+        let end = Flow {
+            acc: 0,
+            have: 0,
+            taken,
+            written: count,
+        };
+        return answered(start.state, end, out.len());
     }
-    let mut acc = start.acc;
-    for n in 0..count {
-        let bits = push_byte(acc, source[from + n]);
+    let mut acc = start.flow.acc;
+    for (n, byte) in source[from..taken].iter().enumerate() {
+        let bits = push_byte(acc, *byte);
         out[n] = byte_at(bits, have);
         acc = low(bits, have);
     }
-    answered(s, acc, have, taken, count, out.len())
+    let end = Flow {
+        acc,
+        have,
+        taken,
+        written: count,
+    };
+    answered(start.state, end, out.len())
 }

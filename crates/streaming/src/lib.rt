@@ -3,5 +3,9 @@
 
 mod decoder;
 mod flow;
+mod opening;
+mod status;
+mod symbols;
 
-pub use decoder::{Ended, Status, StreamStarted, Streamed, StreamingDecoder};
+pub use decoder::{Streamed, StreamingDecoder};
+pub use status::Status;

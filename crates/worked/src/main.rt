@@ -1,314 +1,300 @@
 // Runs rows of the worked table, and UCSC's published example, on the code itself; what it prints is held to the rules' table.
 #![tactic(auto)]
 
+mod shown;
+
+use alphabet::AlphabetType::{Ascii, Dna2bit, Dna3bit, DnaIupac, Protein};
 use alphabet::{AlphabetType, Named, Refusal};
+use anyhow::{Result, anyhow};
 use coder::{
     Encoded, EncoderStarted, Ended, Finalized, Read, SequenceEncoder, Status, StreamStarted,
     Streamed, StreamingDecoder, Updated,
 };
+use shown::{Foretold, Hex, Letters, Name, Told};
+use std::fmt::Display;
 
-// Standard output.
-const STDOUT: i32 = 1;
+// Memory that calls write into holds this byte before, so that what they leave is seen.
+const UNWRITTEN: u8 = 0xAA;
 
-fn print(text: &[u8]) {
-    io::write_all(STDOUT, text);
+// The bytes that a call wrote at the front of memory.
+fn front(memory: &[u8], count: usize) -> &[u8] {
+    &memory[..count.min(memory.len())]
 }
 
-// The bytes in hexadecimal, and a line's end.
-fn print_bytes(bytes: &[u8]) {
-    for i in 0..bytes.len() {
-        print_byte(bytes[i]);
+// What a call answered, behind its label.
+fn tell<T: Display + Drop, E: Into<Refusal>>(
+    rt: &impl Print,
+    label: &str,
+    answer: Result<T, E>,
+) -> Result<()> {
+    match answer {
+        Ok(value) => println!(rt; "{label}: {value}")?,
+        Err(refusal) => println!(rt; "{label}: {}", Told(refusal.into()))?,
     }
-    print(b"\n");
+    Ok(())
 }
 
-fn print_byte(byte: u8) {
-    io::print_hex(STDOUT, byte as u64, 2);
+fn pack(rt: &impl Print, label: &str, kind: AlphabetType, fold: bool, text: &str) -> Result<()> {
+    let mut out = [UNWRITTEN; 9];
+    let answer = encoded(coder::encode_sequence(kind.number(), fold, text.as_bytes(), &mut out));
+    tell(rt, label, answer.map(|count| Hex(front(&out, count))))
 }
 
-fn print_number(number: u64) {
-    io::print_decimal(STDOUT, number);
+fn finish(rt: &impl Print, encoder: SequenceEncoder) -> Result<()> {
+    let mut out = [UNWRITTEN; 9];
+    let answer = finalized(encoder.finalize(&mut out));
+    tell(rt, "finalize", answer.map(|count| Hex(front(&out, count))))
 }
 
-// A refusal's number, then its values.
-fn print_refusal(refusal: Refusal) {
-    print(b"refused ");
-    match refusal {
-        Refusal::NonMember {
-            position,
-            byte,
-            count,
-        } => {
-            print(b"5, position ");
-            print_number(position as u64);
-            print(b", byte ");
-            print_byte(byte);
-            print(b", count ");
-            print_number(count as u64);
-        }
-        Refusal::Outstanding(bases) => {
-            print(b"7, ");
-            print_number(bases);
-            print(b" outstanding");
-        }
-        Refusal::NoSymbol(base) => {
-            print(b"18, base ");
-            print_number(base as u64);
-        }
-        other => print_number(other.number() as u64),
-    }
-    print(b"\n");
-}
-
-// The first `count` bytes of memory, where it has so many.
-fn print_front(memory: &[u8], count: usize) {
-    if count <= memory.len() {
-        print_bytes(&memory[0..count]);
-    }
-}
-
-fn pack(label: &[u8], alphabet: u64, fold: bool, text: &[u8]) {
-    print(label);
-    let mut out = [0xAA; 9];
-    match coder::encode_sequence(alphabet, fold, text, &mut out) {
-        Encoded::Wrote(count) => print_front(&out, count),
-        Encoded::Refused(refusal) => print_refusal(refusal),
-    }
-}
-
-fn finish(encoder: SequenceEncoder) {
-    print(b"finalize: ");
-    let mut out = [0xAA; 9];
-    match encoder.finalize(&mut out) {
-        Finalized::Wrote(count) => print_front(&out, count),
-        Finalized::Refused(refusal, _) => print_refusal(refusal),
-    }
+// One piece, and the bytes that it completes behind its label.
+fn update(
+    rt: &impl Print,
+    label: &str,
+    encoder: SequenceEncoder,
+    piece: &str,
+) -> Result<SequenceEncoder> {
+    let mut out = [UNWRITTEN; 9];
+    let (count, next) = updated(encoder.update(piece.as_bytes(), &mut out)).map_err(refused)?;
+    println!(rt; "update {label}: {}", Hex(front(&out, count)))?;
+    Ok(next)
 }
 
 // A text by one `update`, then `finalize`.
-fn pack_by_update(alphabet: u64, text: &[u8]) {
-    let EncoderStarted::Fresh(encoder) = SequenceEncoder::new(alphabet, false) else {
-        return;
-    };
-    let mut out = [0xAA; 9];
-    let Updated::Wrote(count, next) = encoder.update(text, &mut out) else {
-        return;
-    };
-    print_piece(text, &out, count);
-    finish(next);
-}
-
-// The bytes that a piece completes, behind its label.
-fn print_piece(label: &[u8], memory: &[u8], count: usize) {
-    print(b"update ");
-    print(label);
-    print(b": ");
-    print_front(memory, count);
+fn pack_by_update(rt: &impl Print, kind: AlphabetType, text: &str) -> Result<()> {
+    let encoder = started(SequenceEncoder::new(kind.number(), false)).map_err(refused)?;
+    finish(rt, update(rt, text, encoder, text)?)
 }
 
 // Two pieces, then `finalize`: the choice to fold and the non-members so far stay in the state.
-fn pack_pieces(label: &[u8], fold: bool, one: &[u8], two: &[u8]) {
-    let EncoderStarted::Fresh(encoder) = SequenceEncoder::new(0, fold) else {
-        return;
-    };
-    let mut out = [0xAA; 9];
-    let Updated::Wrote(first, middle) = encoder.update(one, &mut out) else {
-        return;
-    };
-    print_piece(label, &out, first);
-    let Updated::Wrote(second, next) = middle.update(two, &mut out) else {
-        return;
-    };
-    print_piece(two, &out, second);
-    finish(next);
+fn pack_pieces(rt: &impl Print, label: &str, fold: bool, one: &str, two: &str) -> Result<()> {
+    let encoder = started(SequenceEncoder::new(Dna2bit.number(), fold)).map_err(refused)?;
+    let middle = update(rt, label, encoder, one)?;
+    finish(rt, update(rt, two, middle, two)?)
 }
 
 // What `update` would answer with `room` bytes of memory: how many it would write, and what the next state has seen and keeps.
-fn ask(label: &[u8], encoder: SequenceEncoder, piece: &[u8], room: usize) {
-    print(label);
-    match encoder.ask(piece, room) {
-        Updated::Wrote(count, next) => {
-            print_number(count as u64);
-            print(b" to be written, ");
-            print_number(next.seen as u64);
-            print(b" seen, ");
-            print_number(next.bits as u64);
-            print(b" bits pending, value ");
-            print_number(next.pending as u64);
-            let bad = next.bad;
-            print(b", non-members ");
-            print_number(bad.count as u64);
-            print(b"\n");
-        }
-        Updated::Refused(refusal, _) => print_refusal(refusal),
-    }
+fn ask(
+    rt: &impl Print,
+    label: &str,
+    encoder: SequenceEncoder,
+    piece: &str,
+    room: usize,
+) -> Result<()> {
+    let answer = updated(encoder.ask(piece.as_bytes(), room));
+    tell(
+        rt,
+        label,
+        answer.map(|(count, next)| Foretold { count, next }),
+    )
 }
 
 // A scheduler asks before it lends memory: with none, with what is enough, with any number; then the piece is packed as it was asked about.
-fn asking() {
-    let EncoderStarted::Fresh(encoder) = SequenceEncoder::new(0, false) else {
-        return;
-    };
-    ask(b"ask ACGTA, room 0: ", encoder, b"ACGTA", 0);
-    ask(b"ask ACGTA, room 1: ", encoder, b"ACGTA", 1);
-    ask(
-        b"ask ACGTA, room 2^64 - 1: ",
-        encoder,
-        b"ACGTA",
-        18446744073709551615,
-    );
-    ask(b"ask ACG, room 0: ", encoder, b"ACG", 0);
-    ask(b"ask ACNT, room 1: ", encoder, b"ACNT", 1);
-    pack_pieces(b"ACGTA", false, b"ACGTA", b"CGT");
+fn asking(rt: &impl Print) -> Result<()> {
+    let encoder = started(SequenceEncoder::new(Dna2bit.number(), false)).map_err(refused)?;
+    ask(rt, "ask ACGTA, room 0", encoder, "ACGTA", 0)?;
+    ask(rt, "ask ACGTA, room 1", encoder, "ACGTA", 1)?;
+    ask(rt, "ask ACGTA, room 2^64 - 1", encoder, "ACGTA", usize::MAX)?;
+    ask(rt, "ask ACG, room 0", encoder, "ACG", 0)?;
+    ask(rt, "ask ACNT, room 1", encoder, "ACNT", 1)?;
+    pack_pieces(rt, "ACGTA", false, "ACGTA", "CGT")
 }
 
-// The same, as letters.
-fn print_text(memory: &[u8], count: usize) {
-    if count <= memory.len() {
-        print(&memory[0..count]);
-        print(b"\n");
-    }
+fn guess(rt: &impl Print, label: &str, fold: bool, text: &str) -> Result<AlphabetType> {
+    let kind = alphabet::guess_alphabet(fold, text.as_bytes());
+    println!(rt; "guess {label}: {}", name(kind))?;
+    Ok(kind)
 }
 
-fn print_read(label: &[u8], read: Read, out: &[u8]) {
-    print(label);
-    match read {
-        Read::Bases(count) => print_text(out, count),
-        Read::Refused(refusal) => print_refusal(refusal),
-    }
-}
-
-fn print_kind(kind: AlphabetType) {
-    let name = kind.display_name();
-    print_text(&name.bytes, name.len);
-}
-
-fn guess(label: &[u8], fold: bool, text: &[u8]) {
-    print(label);
-    print_kind(alphabet::guess_alphabet(fold, text));
-}
-
-fn later(label: &[u8], one: u64, other: u64) {
-    print(label);
-    match alphabet::later_alphabet(one, other) {
-        Named::Kind(kind) => print_kind(kind),
-        Named::Refused(refusal) => print_refusal(refusal),
-    }
+fn later(rt: &impl Print, label: &str, one: u64, other: u64) -> Result<()> {
+    tell(
+        rt,
+        label,
+        named(alphabet::later_alphabet(one, other)).map(name),
+    )
 }
 
 // Two chromosomes guessed one by one, and the guess of both joined; either number may name no alphabet.
-fn genome() {
-    guess(b"guess ACGU: ", false, b"ACGU");
-    guess(b"guess ACGT: ", false, b"ACGT");
-    later(
-        b"the later: ",
-        alphabet::guess_alphabet(false, b"ACGU").number(),
-        alphabet::guess_alphabet(false, b"ACGT").number(),
-    );
-    guess(b"guess ACGUACGT: ", false, b"ACGUACGT");
-    later(b"later of 4 and 5: ", 4, 5);
-    later(b"later of 0 and 6: ", 0, 6);
+fn genome(rt: &impl Print) -> Result<()> {
+    let one = guess(rt, "ACGU", false, "ACGU")?;
+    let other = guess(rt, "ACGT", false, "ACGT")?;
+    later(rt, "the later", one.number(), other.number())?;
+    guess(rt, "ACGUACGT", false, "ACGUACGT")?;
+    later(rt, "later of 4 and 5", 4, 5)?;
+    later(rt, "later of 0 and 6", 0, 6)
 }
 
 // Lowercase letters, as they are and with folding.
-fn folding() {
-    guess(b"guess acgt: ", false, b"acgt");
-    guess(b"guess acgt, folding: ", true, b"acgt");
-    pack(b"Dna2bit acgt: ", 0, false, b"acgt");
-    pack(b"Dna2bit acgt, folding: ", 0, true, b"acgt");
-    pack(b"Dna2bit acnt, folding: ", 0, true, b"acnt");
-    pack(b"Ascii az, folding: ", 4, true, b"az");
-    pack_pieces(b"acgta, folding", true, b"acgta", b"cnt");
+fn folding(rt: &impl Print) -> Result<()> {
+    guess(rt, "acgt", false, "acgt")?;
+    guess(rt, "acgt, folding", true, "acgt")?;
+    pack(rt, "Dna2bit acgt", Dna2bit, false, "acgt")?;
+    pack(rt, "Dna2bit acgt, folding", Dna2bit, true, "acgt")?;
+    pack(rt, "Dna2bit acnt, folding", Dna2bit, true, "acnt")?;
+    pack(rt, "Ascii az, folding", Ascii, true, "az")?;
+    pack_pieces(rt, "acgta, folding", true, "acgta", "cnt")
 }
 
 // Non-members, counted over the whole text and over all pieces.
-fn counting() {
-    pack(b"Dna2bit NACGTNN: ", 0, false, b"NACGTNN");
-    pack(b"Dna2bit ACnaN, folding: ", 0, true, b"ACnaN");
-    pack_pieces(b"ACNTN", false, b"ACNTN", b"NTT");
+fn counting(rt: &impl Print) -> Result<()> {
+    pack(rt, "Dna2bit NACGTNN", Dna2bit, false, "NACGTNN")?;
+    pack(rt, "Dna2bit ACnaN, folding", Dna2bit, true, "ACnaN")?;
+    pack_pieces(rt, "ACNTN", false, "ACNTN", "NTT")
 }
 
-fn windows() {
-    let mut out = [0xAA; 9];
-    let bytes = [0x80u8];
-    let read = coder::decode_substring_from_bytes_at_offset(0, &bytes, 1, 2, 5, &mut out);
-    print_read(b"80 at 1, Dna2bit, 2 to 5: ", read, &out);
-    let covered = coder::decode_covered(0, &bytes, 1, 2, 5, &mut out);
-    print_read(b"covered: ", covered, &out);
-    let mut none = [0u8; 0];
-    let far = coder::decode_string_from_bytes(0, &bytes, 1152921504606846976, &mut none);
-    print_read(b"end 2^60, no memory: ", far, &out);
-    let farther = coder::decode_string_from_bytes(0, &bytes, 1152921504606846977, &mut none);
-    print_read(b"end 2^60 + 1: ", farther, &out);
+// What a read of bytes lent to it answers: the bases that it wrote, or its refusal.
+fn read<D: FnOnce(&mut [u8]) -> Read + Drop>(rt: &impl Print, label: &str, decode: D) -> Result<()>
+    requires { D.IsAlwaysCallable decode }
+{
+    let mut out = [UNWRITTEN; 9];
+    let answer = bases(decode(&mut out));
+    tell(rt, label, answer.map(|count| Letters(front(&out, count))))
+}
+
+fn windows(rt: &impl Print) -> Result<()> {
+    let alphabet = Dna2bit.number();
+    let bytes = [0x80];
+    read(rt, "80 at 1, Dna2bit, 2 to 5", |out| {
+        coder::decode_substring_from_bytes_at_offset(alphabet, &bytes, 1, 2, 5, out)
+    })?;
+    read(rt, "covered", |out| {
+        coder::decode_covered(alphabet, &bytes, 1, 2, 5, out)
+    })?;
+    read(rt, "end 2^60, no memory", |_| {
+        coder::decode_string_from_bytes(alphabet, &bytes, 1 << 60, &mut [])
+    })?;
+    read(rt, "end 2^60 + 1", |_| {
+        coder::decode_string_from_bytes(alphabet, &bytes, (1 << 60) + 1, &mut [])
+    })
 }
 
 // Codes that Protein's list lacks: a zero-filling read shows X, the covered read tells the first of them.
-fn residues() {
-    let mut out = [0xAA; 9];
-    let damaged = [0xE8u8];
-    let shown = coder::decode_string_from_bytes(3, &damaged, 1, &mut out);
-    print_read(b"e8, Protein, 0 to 1: ", shown, &out);
-    let refused = coder::decode_covered(3, &damaged, 0, 0, 1, &mut out);
-    print_read(b"covered: ", refused, &out);
-    let bytes = [0x07u8, 0x40];
-    let second = coder::decode_covered(3, &bytes, 0, 0, 2, &mut out);
-    print_read(b"07 40, Protein, 0 to 2, covered: ", second, &out);
-    let first = coder::decode_covered(3, &bytes, 0, 0, 1, &mut out);
-    print_read(b"0 to 1, covered: ", first, &out);
-    let unknown = [0xA8u8];
-    let seen = coder::decode_covered(3, &unknown, 0, 0, 1, &mut out);
-    print_read(b"a8, Protein, 0 to 1, covered: ", seen, &out);
+fn residues(rt: &impl Print) -> Result<()> {
+    let alphabet = Protein.number();
+    read(rt, "e8, Protein, 0 to 1", |out| {
+        coder::decode_string_from_bytes(alphabet, &[0xE8], 1, out)
+    })?;
+    read(rt, "covered", |out| {
+        coder::decode_covered(alphabet, &[0xE8], 0, 0, 1, out)
+    })?;
+    read(rt, "07 40, Protein, 0 to 2, covered", |out| {
+        coder::decode_covered(alphabet, &[0x07, 0x40], 0, 0, 2, out)
+    })?;
+    read(rt, "0 to 1, covered", |out| {
+        coder::decode_covered(alphabet, &[0x07, 0x40], 0, 0, 1, out)
+    })?;
+    read(rt, "a8, Protein, 0 to 1, covered", |out| {
+        coder::decode_covered(alphabet, &[0xA8], 0, 0, 1, out)
+    })
 }
 
-fn print_status(status: Status) {
+fn stream(rt: &impl Print) -> Result<()> {
+    let stream = streaming(StreamingDecoder::new(Dna3bit.number(), 3, 0)).map_err(refused)?;
+    let mut out = [UNWRITTEN; 4];
+    let (status, next) = moved(stream.read(&[], &mut out)).map_err(refused)?;
+    println!(rt; "stream, skip 3, budget 0, no source: {}", name_of(status))?;
+    tell(rt, "end call", ended(next.end()).map(|()| "complete"))
+}
+
+fn main(rt: HostRuntime) -> Result<()> {
+    let rt = &rt;
+    pack(rt, "UCSC TCAG", Dna2bit, false, "TCAG")?;
+    pack(rt, "Dna2bit ACGT", Dna2bit, false, "ACGT")?;
+    pack(rt, "Dna3bit ACGTNRYU", Dna3bit, false, "ACGTNRYU")?;
+    pack(rt, "DnaIupac NACM", DnaIupac, false, "NACM")?;
+    pack(rt, "Protein MK*", Protein, false, "MK*")?;
+    pack(rt, "Dna2bit ACNT", Dna2bit, false, "ACNT")?;
+    pack_by_update(rt, Dna2bit, "ACNT")?;
+    folding(rt)?;
+    counting(rt)?;
+    asking(rt)?;
+    windows(rt)?;
+    residues(rt)?;
+    stream(rt)?;
+    genome(rt)
+}
+
+// ---- until these are Results
+
+fn encoded(answer: Encoded) -> Result<usize, Refusal> {
+    match answer {
+        Encoded::Wrote(count) => Ok(count),
+        Encoded::Refused(refusal) => Err(refusal),
+    }
+}
+
+fn finalized(answer: Finalized) -> Result<usize, Refusal> {
+    match answer {
+        Finalized::Wrote(count) => Ok(count),
+        Finalized::Refused(refusal, _) => Err(refusal),
+    }
+}
+
+fn updated(answer: Updated) -> Result<(usize, SequenceEncoder), Refusal> {
+    match answer {
+        Updated::Wrote(count, next) => Ok((count, next)),
+        Updated::Refused(refusal, _) => Err(refusal),
+    }
+}
+
+fn started(answer: EncoderStarted) -> Result<SequenceEncoder, Refusal> {
+    match answer {
+        EncoderStarted::Fresh(encoder) => Ok(encoder),
+        EncoderStarted::Refused(refusal) => Err(refusal),
+    }
+}
+
+fn refused(refusal: Refusal) -> anyhow::Error {
+    anyhow!("{}", Told(refusal))
+}
+
+fn bases(answer: Read) -> Result<usize, Refusal> {
+    match answer {
+        Read::Bases(count) => Ok(count),
+        Read::Refused(refusal) => Err(refusal),
+    }
+}
+
+fn named(answer: Named) -> Result<AlphabetType, Refusal> {
+    match answer {
+        Named::Kind(kind) => Ok(kind),
+        Named::Refused(refusal) => Err(refusal),
+    }
+}
+
+fn name(kind: AlphabetType) -> Name {
+    Name(kind.display_name())
+}
+
+fn name_of(status: Status) -> &'static str {
     match status {
-        Status::Hungry => print(b"Hungry\n"),
-        Status::Done => print(b"Done\n"),
-        Status::Full => print(b"Full\n"),
+        Status::Hungry => "Hungry",
+        Status::Done => "Done",
+        Status::Full => "Full",
     }
 }
 
-fn print_end(ended: Ended) {
-    print(b"end call: ");
-    match ended {
-        Ended::Complete => print(b"complete\n"),
-        Ended::Refused(refusal, _) => print_refusal(refusal),
+fn streaming(answer: StreamStarted) -> Result<StreamingDecoder, Refusal> {
+    match answer {
+        StreamStarted::Fresh(stream) => Ok(stream),
+        StreamStarted::Refused(refusal) => Err(refusal),
     }
 }
 
-fn stream() {
-    let StreamStarted::Fresh(stream) = StreamingDecoder::new(1, 3, 0) else {
-        return;
-    };
-    let source = [0u8; 0];
-    let mut out = [0xAA; 4];
-    let Streamed::Moved {
-        taken: _,
-        written: _,
-        status,
-        next,
-    } = stream.read(&source, &mut out)
-    else {
-        return;
-    };
-    print(b"stream, skip 3, budget 0, no source: ");
-    print_status(status);
-    print_end(next.end());
+fn moved(answer: Streamed) -> Result<(Status, StreamingDecoder), Refusal> {
+    match answer {
+        Streamed::Moved {
+            taken: _,
+            written: _,
+            status,
+            next,
+        } => Ok((status, next)),
+        Streamed::Refused(refusal, _) => Err(refusal),
+    }
 }
 
-fn main() {
-    pack(b"UCSC TCAG: ", 0, false, b"TCAG");
-    pack(b"Dna2bit ACGT: ", 0, false, b"ACGT");
-    pack(b"Dna3bit ACGTNRYU: ", 1, false, b"ACGTNRYU");
-    pack(b"DnaIupac NACM: ", 2, false, b"NACM");
-    pack(b"Protein MK*: ", 3, false, b"MK*");
-    pack(b"Dna2bit ACNT: ", 0, false, b"ACNT");
-    pack_by_update(0, b"ACNT");
-    folding();
-    counting();
-    asking();
-    windows();
-    residues();
-    stream();
-    genome();
+fn ended(answer: Ended) -> Result<(), Refusal> {
+    match answer {
+        Ended::Complete => Ok(()),
+        Ended::Refused(refusal, _) => Err(refusal),
+    }
 }

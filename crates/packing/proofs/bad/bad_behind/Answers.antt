@@ -1,20 +1,17 @@
-use mathlib.Core.Path.{sym, ap₂, ◌∙◌}
-use mathlib.Core.List.{List}
-use Prim.Native.Nat.{ℕ}
-use Rattle.alphabet.specs.Symbols.{Coding, coding_by}
+use Rattle.std.proofs.Common.{Option, ℕ, sym, ap₂, ◌∙◌, List, arith}
+use Rattle.alphabet.specs.Symbols.{Coding, coding_of}
 use Rattle.members.proofs.Laws.{bad_part}
-use Rattle.packing.specs.declared.first.First.{First}
+use Rattle.packing.specs.declared.stranger.Stranger.{Stranger}
 use Rattle.packing.proofs.Search.{first_there, none_there}
 use Rattle.packing.proofs.bad.bad_behind.Goals as goal
 
-pub returns-then-i-text : goal.returns-then-i-text
-returns-then-i-text c =
-    let A : Coding = coding_by c.args.fold c.args.kind in
+pub returns-in-Some : goal.returns-in-Some
+returns-in-Some c =
+    let A : Coding = coding_of c.args.alphabet in
     let text : List ℕ = c.args.text.now in
-    let i : ℕ = c.ahead_from-i.result in
-    let first = first_there A text i c.ahead_from-i.ensures c.if-i-text.true c.args.from in
-    let count = bad_part A text i c.ahead_from-i.ensures in
-    ap₂ (λ (x : First) (n : ℕ). record { first = x; count = n }) (sym first) (c.count_strangers.ensures ∙ count)
+    let there = c.in-Some.ensures in
+    ap₂ (λ (x : Option Stranger) (n : ℕ). record { first = x; count = n }) (sym (first_there A text c.in-Some.i there.0 there.1 c.args.from))
+    (c.count_strangers.ensures ∙ bad_part A text c.in-Some.i there.0)
 
-pub returns : goal.returns
-returns c = none_there (coding_by c.args.fold c.args.kind) c.args.text.now c.ahead_from-i.result c.ahead_from-i.ensures c.if-i-text.false c.args.from
+pub returns-in-None : goal.returns-in-None
+returns-in-None c = none_there (coding_of c.args.alphabet) c.args.text.now _ (sym c.in-None.ensures) (omega arith) c.args.from

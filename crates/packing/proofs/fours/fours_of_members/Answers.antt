@@ -13,7 +13,6 @@ use Rattle.packing.proofs.fours.fours_of_members.Goals as goal
 
 pub loop-b-init : goal.loop-b-init
 loop-b-init c = record {
-  within = omega arith;
   packed = none_packed c.args.fold c.args.text.now c.args.out.now;
   passed = passed_none (coding_by c.args.fold Dna2bit) c.args.text.now;
 }
@@ -37,18 +36,17 @@ loop-b-preserved c =
     let members = all_part A text i 64 (i + 64) refl block (sym c.all_members.ensures ∙ c.if-not-all_members.false) in
     let next : i + 64 ≡ (c.loop-b.b + 1) * 64 = omega arith in
     record {
-      within = omega (arith, c.loop-b-test.true);
       packed = c.put_64.ensures ∙ more_packed c.args.fold text c.args.out.now c.loop-b.b c.loop-b.out o.packed room;
       passed = subst (Passed A text) next (passed_more A text i 64 o.passed block members);
     }
 
 pub returns-then-not-all_members-clause-wrote : goal.returns-then-not-all_members-clause-wrote
 returns-then-not-all_members-clause-wrote c =
-    blocks_ran c.args.fold c.args.text.now c.args.out.now c.loop-b.b c.loop-b.out (omega (arith, c.loop-b.invariant.within)) c.loop-b.invariant.packed
+    blocks_ran c.args.fold c.args.text.now c.args.out.now c.loop-b.b c.loop-b.out (omega (arith, c.loop-b-test.true)) c.loop-b.invariant.packed
 
 pub returns-clause-wrote : goal.returns-clause-wrote
 returns-clause-wrote c =
     let n : ℕ = length c.args.text.now / 64 in
-    let all : c.loop-b.b ≡ n = omega (arith, c.loop-b-test.false, c.loop-b.invariant.within) in
+    let all : c.loop-b.b ≡ n = omega (arith, c.loop-b-test.false, c.loop-b.auto.b-end) in
     blocks_ran c.args.fold c.args.text.now c.args.out.now n c.loop-b.out (omega arith)
     (subst (λ (k : ℕ). Packed c.args.fold c.args.text.now c.args.out.now k c.loop-b.out) all c.loop-b.invariant.packed)

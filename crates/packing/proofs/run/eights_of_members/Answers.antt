@@ -4,7 +4,7 @@ use Prim.Native.Nat.{ℕ, ◌+◌, ◌-◌, ◌*◌, ◌≤◌}
 use native.Mathlib.Omega.{arith}
 use lib.ListN.{length, take, drop, length-map}
 use Rattle.bits.specs.Tables.{at}
-use Rattle.alphabet.specs.Symbols.{Coding, coding_by}
+use Rattle.alphabet.specs.Symbols.{Coding, coding_of}
 use Rattle.members.specs.Members.{Passed}
 use Rattle.members.proofs.Laws.{all_part}
 use Rattle.members.proofs.Passing.{passed_none, passed_more}
@@ -14,9 +14,8 @@ use Rattle.packing.proofs.run.eights_of_members.Goals as goal
 
 pub loop-k-init : goal.loop-k-init
 loop-k-init c = record {
-  within = omega arith;
   wrote = ran_none c.args.b (at c.args.table.now) c.args.text.now c.args.out.now;
-  passed = passed_none (coding_by c.args.fold c.args.kind) c.args.text.now;
+  passed = passed_none (coding_of c.args.alphabet) c.args.text.now;
 }
 
 pub slice_bounds-eights-count-in-loop-k : goal.slice_bounds-eights-count-in-loop-k
@@ -46,7 +45,7 @@ eights-requires c =
 pub loop-k-preserved : goal.loop-k-preserved
 loop-k-preserved c =
     let a = c.args in
-    let A : Coding = coding_by a.fold a.kind in
+    let A : Coding = coding_of a.alphabet in
     let g : ℕ → ℕ = at a.table.now in
     let text : List ℕ = a.text.now in
     let k : ℕ = c.loop-k.k in
@@ -64,7 +63,6 @@ loop-k-preserved c =
     let both = ran_more a.b g text a.out.now c.requires.0 n 64 w block (blocks_bytes a.b k) c.loop-k.out e.new.out o.wrote wrote in
     let members = all_part A text n 64 (n + 64) refl block (sym c.all_members.ensures ∙ c.if-not-all_members.false) in
     record {
-      within = omega (arith, c.loop-k-test.true);
       wrote = both ∙ ap (λ (x : ℕ). ran a.b 0 0 (looked a.table.now (take x text)) a.out.now) next;
       passed = subst (Passed A text) next (passed_more A text n 64 o.passed block members);
     }

@@ -1,16 +1,12 @@
 -- the blocks packed are of members, and what is written is the run over them
-use Rattle.std.proofs.Common.{◌≡◌, ◌-◌, ◌*◌, ◌≤◌, take}
-use Rattle.alphabet.specs.Symbols.{coding_by}
+use Rattle.std.proofs.Common.{◌≡◌, ◌*◌, take}
+use Rattle.alphabet.specs.Symbols.{coding_of}
 use Rattle.members.specs.Members.{Passed}
 use Rattle.packing.specs.Run.{looked, ran}
 use Rattle.packing.proofs.run.eights_of_members.Given as goal
 
 abbrev pub invariant-loop-k : goal.invariant-loop-k
 invariant-loop-k l = record {
-  within : l.k ≤ l.n;
   wrote : l.out ≡ ran l.b 0 0 (looked l.table (take (l.k * 64) l.text)) l.fn.out;
-  passed : Passed (coding_by l.fold l.kind) l.text (l.k * 64);
+  passed : Passed (coding_of l.alphabet) l.text (l.k * 64);
 }
-
-abbrev pub decreases-loop-k : goal.decreases-loop-k
-decreases-loop-k l = l.n - l.k

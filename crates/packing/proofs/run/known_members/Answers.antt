@@ -1,15 +1,19 @@
-use native.Mathlib.Omega.{arith}
-use Rattle.alphabet.specs.Symbols.{Coding, coding_by}
-use Rattle.members.proofs.Laws.{passed_fewer, passed_ahead}
+use Rattle.std.proofs.Common.{◌≡◌, ℕ, List, length, take, sym, ◌∙◌, arith}
+use Rattle.std.proofs.Math.Seq.{length-take-le}
+use Rattle.alphabet.specs.Symbols.{Coding, coding_of}
+use Rattle.members.specs.Members.{members_ahead_of}
+use Rattle.members.proofs.Laws.{passed_ahead}
 use Rattle.members.proofs.Passing.{passed_more}
 use Rattle.packing.proofs.run.known_members.Goals as goal
 
-pub returns-then-m-h : goal.returns-then-m-h
-returns-then-m-h c =
-    passed_ahead (coding_by c.args.fold c.args.kind) c.args.text.now c.args.h c.members_ahead-m.result (omega (arith, c.requires.0)) c.members_ahead-m.ensures
+pub returns-in-Some : goal.returns-in-Some
+returns-in-Some c = passed_ahead (coding_of c.args.alphabet) c.args.text.now c.args.h c.in-Some.m (omega (arith, c.requires.0)) c.in-Some.ensures.0
 
-pub returns : goal.returns
-returns c =
-    let A : Coding = coding_by c.args.fold c.args.kind in
-    let found = passed_ahead A c.args.text.now c.args.h c.members_ahead-m.result (omega (arith, c.requires.0)) c.members_ahead-m.ensures in
-    passed_more A c.args.text.now c.args.h c.args.r (passed_fewer A c.args.text.now c.args.h c.members_ahead-m.result c.if-m-h.false found) c.requires.0 c.requires.1
+pub returns-in-None : goal.returns-in-None
+returns-in-None c =
+    let A : Coding = coding_of c.args.alphabet in
+    let text : List ℕ = c.args.text.now in
+    let h : ℕ = c.args.h in
+    let long : length (take h text) ≡ h = length-take-le h text (omega (arith, c.requires.0)) in
+    let all : h ≡ members_ahead_of A (take h text) = sym (c.in-None.ensures ∙ long) in
+    passed_more A text h c.args.r (passed_ahead A text h h (omega (arith, c.requires.0)) all) c.requires.0 c.requires.1

@@ -42,56 +42,53 @@ none : (fold : Bool) (kind : AlphabetType) (text memory : List ℕ)
 none fold kind text memory = ran_none (coding_by fold kind).width (digit_of (coding_by fold kind)) text memory
 
 pub returns-then-clean-clause-wrote : goal.returns-then-clean-clause-wrote
-returns-then-clean-clause-wrote c = none c.args.fold c.args.kind c.args.text.now c.args.out.now
+returns-then-clean-clause-wrote c = none c.args.alphabet.fold c.args.alphabet.kind c.args.text.now c.args.out.now
 
 pub fours_of_members-requires : goal.fours_of_members-requires
 fours_of_members-requires c =
     let a = c.args in
-    omega (arith, (asked a.fold a.kind Dna2bit a.table.now a.text.now a.out.now 2 c.in-Dna2bit.is widths.of_dna2bit c.requires.0 c.requires.1).0.fits)
+    omega (arith, (asked a.alphabet.fold a.alphabet.kind Dna2bit a.table.now a.text.now a.out.now 2 c.in-Dna2bit.is widths.of_dna2bit c.requires.0 c.requires.1).0.fits)
 
 pub eights_of_members-requires : goal.eights_of_members-requires
 eights_of_members-requires c =
     let a = c.args in
-    asked a.fold a.kind Dna3bit a.table.now a.text.now a.out.now 3 c.in-Dna3bit.is widths.of_dna3bit c.requires.0 c.requires.1
+    asked a.alphabet.fold a.alphabet.kind Dna3bit a.table.now a.text.now a.out.now 3 c.in-Dna3bit.is widths.of_dna3bit c.requires.0 c.requires.1
 
 pub eights_of_members-requires-in-DnaIupac : goal.eights_of_members-requires-in-DnaIupac
 eights_of_members-requires-in-DnaIupac c =
     let a = c.args in
-    asked a.fold a.kind DnaIupac a.table.now a.text.now a.out.now 4 c.in-DnaIupac.is widths.of_dna_iupac c.requires.0 c.requires.1
+    asked a.alphabet.fold a.alphabet.kind DnaIupac a.table.now a.text.now a.out.now 4 c.in-DnaIupac.is widths.of_dna_iupac c.requires.0 c.requires.1
 
 pub eights_of_members-requires-in-Protein : goal.eights_of_members-requires-in-Protein
 eights_of_members-requires-in-Protein c =
     let a = c.args in
-    asked a.fold a.kind Protein a.table.now a.text.now a.out.now 5 c.in-Protein.is widths.of_protein c.requires.0 c.requires.1
+    asked a.alphabet.fold a.alphabet.kind Protein a.table.now a.text.now a.out.now 5 c.in-Protein.is widths.of_protein c.requires.0 c.requires.1
 
 pub returns-in-Dna2bit-clause-wrote : goal.returns-in-Dna2bit-clause-wrote
 returns-in-Dna2bit-clause-wrote c =
     let r : ℕ = c.fours_of_members.result in
-    let digits : AlphabetType → List ℕ = λ k. digits_of (coding_by c.args.fold k) (take (r * 64) c.args.text.now) in
+    let digits : AlphabetType → List ℕ = λ k. digits_of (coding_by c.args.alphabet.fold k) (take (r * 64) c.args.text.now) in
     c.fours_of_members.ensures.wrote
     ∙ ap (λ (b : ℕ). ran b 0 0 (digits Dna2bit) c.args.out.now) (sym widths.of_dna2bit)
-    ∙ ap (λ (k : AlphabetType). ran (coding_by c.args.fold k).width 0 0 (digits k) c.args.out.now) (sym c.in-Dna2bit.is)
+    ∙ ap (λ (k : AlphabetType). ran (coding_by c.args.alphabet.fold k).width 0 0 (digits k) c.args.out.now) (sym c.in-Dna2bit.is)
 
 pub returns-in-Dna3bit-clause-wrote : goal.returns-in-Dna3bit-clause-wrote
 returns-in-Dna3bit-clause-wrote c =
     let a = c.args in
-    told a.fold a.kind Dna3bit a.table.now a.text.now a.out.now 3 c.in-Dna3bit.is widths.of_dna3bit c.requires.0 c.requires.1
+    told a.alphabet.fold a.alphabet.kind Dna3bit a.table.now a.text.now a.out.now 3 c.in-Dna3bit.is widths.of_dna3bit c.requires.0 c.requires.1
     (λ i. (c.type_inv.text i).fits) c.eights_of_members.result c.eights_of_members.new.out c.eights_of_members.ensures.wrote
 
 pub returns-in-DnaIupac-clause-wrote : goal.returns-in-DnaIupac-clause-wrote
 returns-in-DnaIupac-clause-wrote c =
     let a = c.args in
-    told a.fold a.kind DnaIupac a.table.now a.text.now a.out.now 4 c.in-DnaIupac.is widths.of_dna_iupac c.requires.0 c.requires.1
+    told a.alphabet.fold a.alphabet.kind DnaIupac a.table.now a.text.now a.out.now 4 c.in-DnaIupac.is widths.of_dna_iupac c.requires.0 c.requires.1
     (λ i. (c.type_inv.text i).fits) c.eights_of_members-in-DnaIupac.result c.eights_of_members-in-DnaIupac.new.out c.eights_of_members-in-DnaIupac.ensures.wrote
 
 pub returns-in-Protein-clause-wrote : goal.returns-in-Protein-clause-wrote
 returns-in-Protein-clause-wrote c =
     let a = c.args in
-    told a.fold a.kind Protein a.table.now a.text.now a.out.now 5 c.in-Protein.is widths.of_protein c.requires.0 c.requires.1
+    told a.alphabet.fold a.alphabet.kind Protein a.table.now a.text.now a.out.now 5 c.in-Protein.is widths.of_protein c.requires.0 c.requires.1
     (λ i. (c.type_inv.text i).fits) c.eights_of_members-in-Protein.result c.eights_of_members-in-Protein.new.out c.eights_of_members-in-Protein.ensures.wrote
 
 pub returns-in-Ascii-clause-wrote : goal.returns-in-Ascii-clause-wrote
-returns-in-Ascii-clause-wrote c = none c.args.fold c.args.kind c.args.text.now c.args.out.now
-
-pub returns-in-Unknown-clause-wrote : goal.returns-in-Unknown-clause-wrote
-returns-in-Unknown-clause-wrote c = none c.args.fold c.args.kind c.args.text.now c.args.out.now
+returns-in-Ascii-clause-wrote c = none c.args.alphabet.fold c.args.alphabet.kind c.args.text.now c.args.out.now

@@ -5,7 +5,7 @@ use native.Mathlib.Omega.{arith}
 use lib.ListN.{length, take}
 use lib.Seq.{take_all}
 use Rattle.bits.specs.Packing.{at_hand}
-use Rattle.alphabet.specs.Symbols.{Coding, coding_by}
+use Rattle.alphabet.specs.Symbols.{Coding, coding_of}
 use Rattle.packing.specs.Encode.{digit_of, digits_of}
 use Rattle.packing.specs.Run.{Ready, ran}
 use Rattle.packing.proofs.Behind.{clean_part, room, ready_behind, ran_head, ran_behind, nothing_held, blocks_bytes}
@@ -27,18 +27,18 @@ pub slice_bounds-pack_even-count-2 : goal.slice_bounds-pack_even-count-2
 slice_bounds-pack_even-count-2 c =
     let a = c.args in
     let m = c.members_of-n in
-    omega (arith, fits (coding_by a.fold a.kind) a.text.now a.out.now m.result c.bits_per_symbol.result c.requires.0 c.bits_per_symbol.ensures m.ensures.passed.within, m.auto.out)
+    omega (arith, fits (coding_of a.alphabet) a.text.now a.out.now m.result c.bits_per_symbol.result c.requires.0 c.bits_per_symbol.ensures m.ensures.passed.within, m.auto.out)
 
 pub slice_bounds-pack_even-start-2 : goal.slice_bounds-pack_even-start-2
 slice_bounds-pack_even-start-2 c =
     let a = c.args in
     let m = c.members_of-n in
-    omega (arith, fits (coding_by a.fold a.kind) a.text.now a.out.now m.result c.bits_per_symbol.result c.requires.0 c.bits_per_symbol.ensures m.ensures.passed.within, m.auto.out)
+    omega (arith, fits (coding_of a.alphabet) a.text.now a.out.now m.result c.bits_per_symbol.result c.requires.0 c.bits_per_symbol.ensures m.ensures.passed.within, m.auto.out)
 
 pub pack_even-requires : goal.pack_even-requires
 pack_even-requires c =
     let a = c.args in
-    let A : Coding = coding_by a.fold a.kind in
+    let A : Coding = coding_of a.alphabet in
     let m = c.members_of-n in
     let n : ℕ = m.result in
     let b : ℕ = c.bits_per_symbol.result in (
@@ -50,7 +50,7 @@ pack_even-requires c =
 pub returns-then-text-i-clause-wrote : goal.returns-then-text-i-clause-wrote
 returns-then-text-i-clause-wrote c =
     let a = c.args in
-    let A : Coding = coding_by a.fold a.kind in
+    let A : Coding = coding_of a.alphabet in
     let m = c.members_of-n in
     let all : take (m.result * 64) a.text.now ≡ a.text.now = take_all (m.result * 64) a.text.now c.if-text-i.true in
     m.ensures.wrote ∙ ap (λ (l : List ℕ). ran A.width 0 0 (digits_of A l) a.out.now) all
@@ -58,7 +58,7 @@ returns-then-text-i-clause-wrote c =
 pub returns-clause-wrote : goal.returns-clause-wrote
 returns-clause-wrote c =
     let a = c.args in
-    let A : Coding = coding_by a.fold a.kind in
+    let A : Coding = coding_of a.alphabet in
     let m = c.members_of-n in
     let n : ℕ = m.result in
     let b : ℕ = c.bits_per_symbol.result in

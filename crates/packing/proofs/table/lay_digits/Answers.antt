@@ -9,4 +9,4 @@ pub returns : goal.returns
 returns c =
     let s = c in
     let a = s.args in
-    λ h. digits_laid a.fold a.kind a.table.now s.requires c.lay_codes.ensures
+    λ h. digits_laid a.alphabet.fold a.alphabet.kind a.table.now s.requires c.lay_codes.ensures
