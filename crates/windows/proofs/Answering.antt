@@ -1,12 +1,11 @@
 -- What an answer says of a call, and what it leaves in memory.
-use Rattle.std.proofs.Common.{◌≡◌, ℕ, ◌+◌, ◌-◌, ◌^◌, ◌<◌, ◌≤◌, Bool, true, false, ◌&&◌, ltb, leb, List, [], ◌∷◌, length, sym, refl, ap}
+use Rattle.std.proofs.Common.{◌≡◌, ℕ, ◌+◌, ◌-◌, ◌^◌, ◌<◌, ◌≤◌, Bool, true, false, ◌&&◌, ltb, leb, List, [], ◌∷◌, ◌++◌, length, drop, sym, refl, ap, ap₂}
 use Rattle.std.proofs.Common.{◌∙◌, mul-le-mul_right, arith, ltb-false, ltb-true, le-ltb, lt-ltb, le-leb, leb-true}
 use borrow.Author.Tests.{lt-leb}
 use Rattle.bits.specs.Tables.{tabulate}
 use Rattle.bits.specs.Packing.{first_byte, end_byte}
-use Rattle.bits.specs.Memory.{front, put_at}
+use Rattle.bits.specs.Memory.{front}
 use Rattle.bits.proofs.Computed.{both_true}
-use Rattle.bits.proofs.Put.{put_front}
 use Rattle.alphabet.specs.Questions.{ask◌else◌then◌, by, in_bounds}
 use Rattle.alphabet.specs.Symbols.{Coding, coding}
 use Rattle.alphabet.specs.Names.{known, kind_of, numbered}
@@ -15,8 +14,7 @@ use Rattle.alphabet.specs.declared.kind.AlphabetType.TheVariants.{Protein}
 use Rattle.alphabet.specs.declared.refusal.Refusal.{Refusal}
 use Rattle.windows.specs.declared.read.Read.{Read}
 use Rattle.windows.specs.Window.{window, covers, first_lacking_of, all_assigned, read_at, lent_at, looked_at, covered_at, read_writes, read_memory, covered_memory}
-use Rattle.windows.specs.Workers.{Fits, Passed}
-use Rattle.windows.proofs.Windows.{window_bases}
+use Rattle.windows.proofs.Windows.{window_bases, length-window}
 use Rattle.windows.proofs.Assigned.{empty-assigned, others_assigned}
 
 -- ---- an answer with bases passed every question
@@ -31,13 +29,13 @@ passed true no_answer rest n z h e = (refl, e)
 passed false no_answer rest n z h e = absurd (omega arith)
 
 -- the last question
-last : (start end room n : ℕ) → ltb start end ≡ true → in_bounds end ≡ true → leb (end - start) room ≡ true → end - start ≡ n → Fits start n 0 room
-last start end room n some near space count =
-    record { near = omega (arith, ltb-true start end some, leb-true end (2 ^ 60) near); space = omega (arith, leb-true (end - start) room space) }
+last : (start end room n : ℕ) → ltb start end ≡ true → in_bounds end ≡ true → leb (end - start) room ≡ true → end - start ≡ n → (start + n ≤ 2 ^ 60) × (n ≤ room)
+last start end room n some near space count = (omega (arith, ltb-true start end some, leb-true end (2 ^ 60) near), omega (arith, leb-true (end - start) room space))
 
-pub accepted : (alphabet offset start end room : ℕ) (r : Read) → r ≡ read_at alphabet offset start end room → Passed r start room
+pub accepted : (alphabet offset start end room : ℕ) (r : Read) (n : ℕ) → r ≡ read_at alphabet offset start end room → r ≡ Read.Bases n → (n ≡ 0 → ⊥)
+    → (start + n ≤ 2 ^ 60) × (n ≤ room)
 unfolding read_at
-accepted alphabet offset start end room r e n told z =
+accepted alphabet offset start end room r n e told z =
     let h : 0 < n = omega arith in
     let p₁ = passed (ltb start end) _ _ n refl h (sym (ap counted e) ∙ ap counted told) in
     let p₂ = passed (known alphabet) _ _ n refl h p₁.1 in
@@ -47,7 +45,7 @@ accepted alphabet offset start end room r e n told z =
 
 -- what is known of a covered read that was answered with bases before its codes are looked at
 pub record Accepted (alphabet : ℕ) (lent : List ℕ) (offset start end room n : ℕ) : Type 0 where
-  pub fits : Fits start n 0 room
+  pub fits : (start + n ≤ 2 ^ 60) × (n ≤ room)
   pub all : covers (numbered alphabet) lent offset start end ≡ true
   pub whole : start + n ≡ end
 
@@ -87,18 +85,15 @@ module _ (alphabet : ℕ) (lent : List ℕ) (offset start : ℕ) (memory : List 
       same_after (Read.Bases 0) answer memory (ap Read.Bases (sym z) ∙ sym told)
       (ap (λ (l : List ℕ). front l memory) (sym (window_bases (numbered alphabet) lent offset start 0)))
 
-  pub bases_after : (answer : Read) (kind : AlphabetType) (n : ℕ) (out : List ℕ) → answer ≡ Read.Bases n → kind ≡ kind_of alphabet
-      → out ≡ put_at 0 (window (coding kind) lent offset start n) memory → After answer out
+  -- n bases stand at the front
+  pub bases_after : (answer : Read) (kind : AlphabetType) (n m : ℕ) (xs : List ℕ) → answer ≡ Read.Bases n → kind ≡ kind_of alphabet → m ≡ n
+      → xs ≡ window (coding kind) lent offset start m → After answer (xs ++ drop n memory)
   unfolding read_writes
-  bases_after answer kind n out told k w =
-      same_after (Read.Bases n) answer out (sym told)
-      (w
-      ∙ ap (λ (x : AlphabetType). put_at 0 (window (coding x) lent offset start n) memory) k
-      ∙ put_front (window (numbered alphabet) lent offset start n) memory)
-
-  -- a call that hands on what its questions answered
-  pub handed_on : (r asked answer : Read) (out : List ℕ) → r ≡ asked → asked ≡ answer → After asked out → (r ≡ answer) × After answer out
-  handed_on r asked answer out same e w = (same ∙ e, same_after asked answer out e w)
+  bases_after answer kind n m xs told k same w =
+      let all : xs ≡ window (numbered alphabet) lent offset start n =
+      w ∙ ap₂ (λ (x : AlphabetType) (i : ℕ). window (coding x) lent offset start i) k same in
+      let len : length xs ≡ n = ap length all ∙ length-window (numbered alphabet) lent offset start n in
+      same_after (Read.Bases n) answer (xs ++ drop n memory) (sym told) (ap (λ (i : ℕ). xs ++ drop i memory) (sym len) ∙ ap (λ (l : List ℕ). front l memory) all)
 
 -- ---- question 6
 

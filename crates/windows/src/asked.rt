@@ -3,6 +3,7 @@ ghost use Rattle.std.specs.Prelude.{◌≡◌};
 ghost use Rattle.alphabet.specs.Names.{kind_of};
 ghost use Rattle.windows.specs.Window.{read_at, lent_at};
 
+use crate::lent::Lent;
 use crate::read::Read;
 use alphabet::{AlphabetType, Named, Refusal, kind_of_number};
 use bits::LIMIT;
@@ -44,17 +45,10 @@ pub fn asked(alphabet: u64, offset: usize, start: usize, end: usize, room: usize
 
 // The answer of a covered read before its codes are looked at: what a zero-filling one asks, memory aside, and question 6 before the memory. Memory of `end` bytes
 // is never too short.
-pub fn asked_covered(
-    alphabet: u64,
-    bytes: &[u8],
-    offset: usize,
-    start: usize,
-    end: usize,
-    room: usize,
-) -> Read
-    ensures { result ≡ lent_at alphabet bytes.now offset start end room }
+pub fn asked_covered(alphabet: u64, lent: &Lent<'_>, start: usize, end: usize, room: usize) -> Read
+    ensures { result ≡ lent_at alphabet lent.now.bytes.now lent.now.offset start end room }
 {
-    let plain = asked(alphabet, offset, start, end, end);
+    let plain = asked(alphabet, lent.offset, start, end, end);
     let Read::Bases(count) = plain else {
         return plain;
     };
@@ -62,10 +56,10 @@ pub fn asked_covered(
         return plain;
     }
     let b = kind_of(alphabet).bits_per_symbol();
-    if start * b / 8 < offset {
+    if start * b / 8 < lent.offset {
         return Read::Refused(Refusal::Uncovered);
     }
-    if bytes.len() < (end * b + 7) / 8 - offset {
+    if lent.bytes.len() < (end * b + 7) / 8 - lent.offset {
         return Read::Refused(Refusal::Uncovered);
     }
     if room < count {

@@ -3,11 +3,14 @@
 
 mod asked;
 mod blocks;
+mod engine;
 mod fours;
 mod lacking;
+mod lent;
 mod plain;
 mod read;
 mod rolling;
+mod table;
 
 pub use read::{
     Read, decode_2bit, decode_3bit, decode_4bit, decode_5bit, decode_covered, decode_rolling,
