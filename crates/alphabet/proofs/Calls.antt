@@ -1,6 +1,6 @@
 -- The laws of the calls: what an answer tells by number, and the guesser's calls one after another.
 use Rattle.std.proofs.Common.{◌≡◌, ℕ, zero, suc, ◌<◌, ◌≤◌, max, Bool, true, false, cond, ◌&&◌, eqb, leb, List, [], ◌∷◌, ◌++◌, length, get_or}
-use Rattle.std.proofs.Common.{take, replicate, sym, refl, ap, ◌∙◌, subst, ap₂, true≢false, le_of_suc-le-suc, not-suc-le-zero, arith, lit≤, eqb-true, le-leb}
+use Rattle.std.proofs.Common.{Result, Ok, Err, replicate, sym, refl, ap, ◌∙◌, subst, ap₂, true≢false, le_of_suc-le-suc, not-suc-le-zero, arith, lit≤, eqb-true, le-leb}
 use Rattle.std.proofs.Common.{leb-false, leb-true}
 use mathlib.Core.Option.{some, some-injective, none-ne-some}
 use borrow.Author.Tests.{lt-leb}
@@ -13,18 +13,16 @@ use Rattle.bits.proofs.Tabulated.{is_tabulate, get_d_tabulate, tabulate_ext, rep
 use Rattle.bits.proofs.Computed.{both_true}
 use Rattle.alphabet.specs.Questions.{ask◌else◌then◌, Reply, accepted, refused, refusal_reply, refusals, tells, first_telling, by, number_in}
 use Rattle.alphabet.specs.declared.refusal.Refusal.{Refusal}
+use Rattle.alphabet.specs.declared.refusal.Refused.{Refused}
+use Rattle.alphabet.specs.Refusing.{◌keeping◌}
 use Rattle.alphabet.specs.declared.refusal.Refusal.TheVariants.{Unsound, TooFar, Uncovered, ShortMemory, NonMember, BadSkip, Outstanding, NoAlphabet, TooWide, NoSymbol}
-use Rattle.alphabet.specs.Names.{display_name_of, name_of, kinds, number_of, known, kind_of, named_at}
+use Rattle.alphabet.specs.Names.{display_name_of, kinds, number_of, known, kind_of, named_at}
 use Rattle.alphabet.specs.Guess.{order, masked, lowest, guess_of, holds_all, fresh_guesser, sound_guesser, guesser_after, guesser_update_at, guess_at}
 use Rattle.alphabet.specs.Genome.{later, later_at}
 use Rattle.alphabet.specs.Answers.{named_reply, named_told, later_told, fold_number, guesser_updated_reply, guesser_update_told, guessed_reply, guess_told}
 use Rattle.alphabet.specs.declared.kind.AlphabetType.{AlphabetType}
 use Rattle.alphabet.specs.declared.kind.AlphabetType.TheVariants.{Dna2bit, Dna3bit, DnaIupac, Protein, Ascii, Unknown}
-use Rattle.alphabet.specs.declared.kind.Name.{Name}
-use Rattle.alphabet.specs.declared.kind.Named.{Named}
 use Rattle.alphabet.specs.declared.guesser.AlphabetGuesser.{AlphabetGuesser}
-use Rattle.alphabet.specs.declared.guesser.GuesserUpdated.{GuesserUpdated}
-use Rattle.alphabet.specs.declared.guesser.Guessed.{Guessed}
 use Rattle.alphabet.specs.contracts.kind.AlphabetType.{the_type}
 use Rattle.alphabet.proofs.Laws.{folded-append, folded_bytes}
 use Rattle.alphabet.proofs.Folding.{canon_lt}
@@ -151,20 +149,20 @@ order_number (suc (suc (suc zero))) h = refl
 order_number (suc (suc (suc (suc zero)))) h = refl
 order_number (suc (suc (suc (suc (suc n))))) h = absurd (omega arith)
 
--- what an answer of `kind_of_number` says of the number
-pub named_kind : (n : ℕ) (k : AlphabetType) → named_at n ≡ Named.Kind k → (known n ≡ true) × (kind_of n ≡ k)
+-- what the answer to a number says of it
+pub named_kind : (n : ℕ) (k : AlphabetType) → named_at n ≡ Ok k → (known n ≡ true) × (kind_of n ≡ k)
 unfolding named_at
 named_kind n k e = go (known n) e
   where
-    go : (b : Bool) → (ask b else Named.Refused (by 8 []) then Named.Kind (kind_of n)) ≡ Named.Kind k → (b ≡ true) × (kind_of n ≡ k)
+    go : (b : Bool) → (ask b else Err (by 8 []) then Ok (kind_of n)) ≡ Ok k → (b ≡ true) × (kind_of n ≡ k)
     go true q = (refl, cc)
     go false q = absurd (let z : ◌≡◌ {A = ℕ} 0 1 = cc in omega arith)
 
-pub named-refused : (n : ℕ) (q : Refusal) → named_at n ≡ Named.Refused q → (known n ≡ false) × (q ≡ by 8 [])
+pub named-refused : (n : ℕ) (q : Refusal) → named_at n ≡ Err q → (known n ≡ false) × (q ≡ by 8 [])
 unfolding named_at
 named-refused n q e = go (known n) e
   where
-    go : (b : Bool) → (ask b else Named.Refused (by 8 []) then Named.Kind (kind_of n)) ≡ Named.Refused q → (b ≡ false) × (q ≡ by 8 [])
+    go : (b : Bool) → (ask b else Err (by 8 []) then Ok (kind_of n)) ≡ Err q → (b ≡ false) × (q ≡ by 8 [])
     go true e = absurd (let z : ◌≡◌ {A = ℕ} 0 1 = cc in omega arith)
     go false e = (refl, cc)
 
@@ -196,7 +194,7 @@ known_max one other = go (known one) refl (known other) refl
 pub later-named : (one other : ℕ) → later_at one other ≡ named_at (max one other)
 unfolding later_at named_at
 later-named one other =
-    go (known one && known other) refl ∙ ap (λ (b : Bool). ask b else Named.Refused (by 8 []) then Named.Kind (kind_of (max one other))) (known_max one other)
+    go (known one && known other) refl ∙ ap (λ (b : Bool). ask b else Err (by 8 []) then Ok (kind_of (max one other))) (known_max one other)
   where
     kind : one ≤ 5 → other ≤ 5 → later (kind_of one) (kind_of other) ≡ kind_of (max one other)
     kind h l =
@@ -204,13 +202,13 @@ later-named one other =
         (later-max (kind_of one) (kind_of other) ∙ ap₂ max (number_kind one h) (number_kind other l) ∙ sym (number_kind (max one other) (omega arith)))
 
     go : (b : Bool) → known one && known other ≡ b
-        → (ask b else Named.Refused (by 8 []) then Named.Kind (later (kind_of one) (kind_of other)))
-        ≡ (ask b else Named.Refused (by 8 []) then Named.Kind (kind_of (max one other)))
-    go true e = let p = both_true (known one) (known other) e in ap Named.Kind (kind (leb-true one 5 p.0) (leb-true other 5 p.1))
+        → (ask b else Err (by 8 []) then Ok (later (kind_of one) (kind_of other)))
+        ≡ (ask b else Err (by 8 []) then Ok (kind_of (max one other)))
+    go true e = let p = both_true (known one) (known other) e in ap Ok (kind (leb-true one 5 p.0) (leb-true other 5 p.1))
     go false e = refl
 
 -- of two kinds' numbers it tells the later kind
-pub later-kinds : (j k : AlphabetType) → later_at (number_of j) (number_of k) ≡ Named.Kind (later j k)
+pub later-kinds : (j k : AlphabetType) → later_at (number_of j) (number_of k) ≡ Ok (later j k)
 unfolding later_at
 later-kinds j k = rw (known_number j, known_number k, kind_number j, kind_number k)
 
@@ -228,34 +226,14 @@ pub names : Names
 unfolding display_name_of
 names = record { of_dna2bit = refl; of_dna3bit = refl; of_dna_iupac = refl; of_protein = refl; of_ascii = refl; of_unknown = refl }
 
--- seven bytes, of which the first `len` are the display name
-pub record Spelt (k : AlphabetType) : Type 0 where
-  pub bytes : length (name_of k).bytes ≡ 7
-  pub within : (name_of k).len ≤ 7
-  pub counted : (name_of k).len ≡ length (display_name_of k)
-  pub front : take (name_of k).len (name_of k).bytes ≡ display_name_of k
-
-pub spelt : (k : AlphabetType) → Spelt k
-unfolding name_of display_name_of bytes_of
-spelt Dna2bit = record { bytes = refl; within = lit≤ tt; counted = refl; front = refl }
-spelt Dna3bit = record { bytes = refl; within = lit≤ tt; counted = refl; front = refl }
-spelt DnaIupac = record { bytes = refl; within = lit≤ tt; counted = refl; front = refl }
-spelt Protein = record { bytes = refl; within = lit≤ tt; counted = refl; front = refl }
-spelt Ascii = record { bytes = refl; within = lit≤ tt; counted = refl; front = refl }
-spelt Unknown = record { bytes = refl; within = lit≤ tt; counted = refl; front = refl }
-
--- so the length of a name that was answered lies within its bytes
-pub name_within : (n : Name) (k : AlphabetType) → n ≡ name_of k → n.len ≤ length n.bytes
-name_within n k e = subst (λ (m : Name). m.len ≤ length m.bytes) (sym e) (omega (arith, (spelt k).within, (spelt k).bytes))
-
 -- ---- what answers tell
 
--- `kind_of_number`
+-- a number's kind
 pub named_told_lem : (n : ℕ) → named_reply (named_at n) ≡ named_told n
 unfolding named_at
 named_told_lem n = go (known n) refl
   where
-    go : (b : Bool) → leb n 5 ≡ b → named_reply (ask b else Named.Refused (by 8 []) then Named.Kind (kind_of n)) ≡ (ask b else refused 8 [] then accepted (n ∷ []))
+    go : (b : Bool) → leb n 5 ≡ b → named_reply (ask b else Err (by 8 []) then Ok (kind_of n)) ≡ (ask b else refused 8 [] then accepted (n ∷ []))
     go true e = ap (λ (x : ℕ). accepted (x ∷ [])) (number_kind n (leb-true n 5 e))
     go false e = refl
 
@@ -274,7 +252,7 @@ update_told g text = go (sound_guesser g)
     m : ℕ
     m = masked g.acc (folded g.fold text)
 
-    go : (b : Bool) → guesser_updated_reply (ask b else GuesserUpdated.Refused (by 1 []) g then GuesserUpdated.Next (guesser_after g text))
+    go : (b : Bool) → guesser_updated_reply (ask b else Err (by 1 [] keeping g) then Ok (guesser_after g text))
         ≡ (ask b else refused 1 [] then accepted (m ∷ fold_number g.fold ∷ []))
     go true = refl
     go false = refl
@@ -302,7 +280,7 @@ guess_told_lem g = go (sound_guesser g) refl
     n = count_trailing_zeros 8 g.acc
 
     go : (b : Bool) → sound_guesser g ≡ b
-        → guessed_reply (ask b else Guessed.Refused (by 1 []) g then Guessed.Kind (get_or order n Unknown)) ≡ (ask b else refused 1 [] then accepted (n ∷ []))
+        → guessed_reply (ask b else Err (by 1 [] keeping g) then Ok (get_or order n Unknown)) ≡ (ask b else refused 1 [] then accepted (n ∷ []))
     go true e =
         let r = sound_range g e in
         ap (λ (x : ℕ). accepted (x ∷ [])) (order_number n (zeros_lt g.acc r.0 r.1))
@@ -311,36 +289,36 @@ guess_told_lem g = go (sound_guesser g) refl
 -- ---- the guesser's calls
 
 -- a sound state's answers
-pub update_sound : (g : AlphabetGuesser) (text : List ℕ) → sound_guesser g ≡ true → guesser_update_at g text ≡ GuesserUpdated.Next (guesser_after g text)
+pub update_sound : (g : AlphabetGuesser) (text : List ℕ) → sound_guesser g ≡ true → guesser_update_at g text ≡ Ok (guesser_after g text)
 unfolding guesser_update_at
 update_sound g text e = rw e
 
-pub update_unsound : (g : AlphabetGuesser) (text : List ℕ) → sound_guesser g ≡ false → guesser_update_at g text ≡ GuesserUpdated.Refused (by 1 []) g
+pub update_unsound : (g : AlphabetGuesser) (text : List ℕ) → sound_guesser g ≡ false → guesser_update_at g text ≡ Err (by 1 [] keeping g)
 unfolding guesser_update_at
 update_unsound g text e = rw e
 
-pub guess_unsound : (g : AlphabetGuesser) → sound_guesser g ≡ false → guess_at g ≡ Guessed.Refused (by 1 []) g
+pub guess_unsound : (g : AlphabetGuesser) → sound_guesser g ≡ false → guess_at g ≡ Err (by 1 [] keeping g)
 unfolding guess_at
 guess_unsound g e = rw e
 
-pub guess_sound : (g : AlphabetGuesser) → sound_guesser g ≡ true → guess_at g ≡ Guessed.Kind (lowest g.acc)
+pub guess_sound : (g : AlphabetGuesser) → sound_guesser g ≡ true → guess_at g ≡ Ok (lowest g.acc)
 unfolding guess_at
 guess_sound g e = rw e
 
 -- both clauses of a contract follow from the first
-pub named-whole : (r : Named) (n : ℕ) → r ≡ named_at n → (r ≡ named_at n) × (named_reply r ≡ named_told n)
+pub named-whole : (r : Result AlphabetType Refusal) (n : ℕ) → r ≡ named_at n → (r ≡ named_at n) × (named_reply r ≡ named_told n)
 named-whole r n e = (e, ap named_reply e ∙ named_told_lem n)
 
-pub later-whole : (r : Named) (one other greater : ℕ) → max one other ≡ greater → r ≡ named_at greater → (r ≡ later_at one other) × (named_reply r ≡ later_told one other)
+pub later-whole : (r : Result AlphabetType Refusal) (one other greater : ℕ) → max one other ≡ greater → r ≡ named_at greater → (r ≡ later_at one other) × (named_reply r ≡ later_told one other)
 later-whole r one other greater m e =
     let is : r ≡ later_at one other = e ∙ ap named_at (sym m) ∙ sym (later-named one other) in
     (is, ap named_reply is ∙ later_told_lem one other)
 
-pub update-whole : (r : GuesserUpdated) (g : AlphabetGuesser) (text : List ℕ) → r ≡ guesser_update_at g text
+pub update-whole : (r : Result AlphabetGuesser (Refused AlphabetGuesser)) (g : AlphabetGuesser) (text : List ℕ) → r ≡ guesser_update_at g text
     → (r ≡ guesser_update_at g text) × (guesser_updated_reply r ≡ guesser_update_told g text)
 update-whole r g text e = (e, ap guesser_updated_reply e ∙ update_told g text)
 
-pub guess-whole : (r : Guessed) (g : AlphabetGuesser) → r ≡ guess_at g → (r ≡ guess_at g) × (guessed_reply r ≡ guess_told g)
+pub guess-whole : (r : Result AlphabetType (Refused AlphabetGuesser)) (g : AlphabetGuesser) → r ≡ guess_at g → (r ≡ guess_at g) × (guessed_reply r ≡ guess_told g)
 guess-whole r g e = (e, ap guessed_reply e ∙ guess_told_lem g)
 
 -- a sound state stays sound
@@ -356,7 +334,7 @@ update-pieces g a b bytes e =
     let both : masked g.acc (folded g.fold (a ++ b)) ≡ masked (masked g.acc (folded g.fold a)) (folded g.fold b) =
     ap (masked g.acc) (folded-append g.fold a b) ∙ masked-append g.acc (folded g.fold a) (folded g.fold b) in
     update_sound (guesser_after g a) b (stays_sound g a bytes e)
-    ∙ ap (λ (m : ℕ). GuesserUpdated.Next (record { acc = m; fold = g.fold })) (sym both)
+    ∙ ap (λ (m : ℕ). Ok (record { acc = m; fold = g.fold })) (sym both)
     ∙ sym (update_sound g (a ++ b) e)
 
 -- a fresh guesser takes any text, and then guesses as `guess_alphabet`
@@ -368,11 +346,11 @@ module _ (fold : Bool) (text : List ℕ) (bytes : Bytes text) where
   unfolding fresh_guesser
   fresh_sound = range_sound (fresh_guesser fold) (lit≤ tt) (lit≤ tt)
 
-  pub fresh-update : (u : GuesserUpdated) (g : AlphabetGuesser) → g ≡ fresh_guesser fold → u ≡ guesser_update_at g text → u ≡ GuesserUpdated.Next after_text
+  pub fresh-update : (u : Result AlphabetGuesser (Refused AlphabetGuesser)) (g : AlphabetGuesser) → g ≡ fresh_guesser fold → u ≡ guesser_update_at g text → u ≡ Ok after_text
   unfolding fresh_guesser
   fresh-update u g e f = f ∙ ap (λ (x : AlphabetGuesser). guesser_update_at x text) e ∙ update_sound (fresh_guesser fold) text fresh_sound
 
-  pub fresh-guess : (u : Guessed) (g : AlphabetGuesser) → g ≡ after_text → u ≡ guess_at g → u ≡ Guessed.Kind (guess_of fold text)
+  pub fresh-guess : (u : Result AlphabetType (Refused AlphabetGuesser)) (g : AlphabetGuesser) → g ≡ after_text → u ≡ guess_at g → u ≡ Ok (guess_of fold text)
   unfolding fresh_guesser guess_of
   fresh-guess u g e f = f ∙ ap guess_at e ∙ guess_sound after_text (stays_sound (fresh_guesser fold) text bytes fresh_sound)
 
@@ -403,14 +381,8 @@ codes_over fold k other table t =
 
 -- ---- an answer is one of its cases
 
-pub next_only : {u : GuesserUpdated} {a b : AlphabetGuesser} {q : Refusal} → u ≡ GuesserUpdated.Next a → u ≡ GuesserUpdated.Refused q b → ⊥
-next_only e f = let z : ◌≡◌ {A = ℕ} 0 1 = cc in omega arith
+pub ok_only : {A B : Type 0} {r : Result A B} {a : A} {b : B} → r ≡ Ok a → r ≡ Err b → ⊥
+ok_only e f = let z : ◌≡◌ {A = ℕ} 0 1 = cc in omega arith
 
-pub next_same : {u : GuesserUpdated} {a b : AlphabetGuesser} → u ≡ GuesserUpdated.Next a → u ≡ GuesserUpdated.Next b → a ≡ b
-next_same e f = cc
-
-pub kind_only : {u : Guessed} {k : AlphabetType} {b : AlphabetGuesser} {q : Refusal} → u ≡ Guessed.Kind k → u ≡ Guessed.Refused q b → ⊥
-kind_only e f = let z : ◌≡◌ {A = ℕ} 0 1 = cc in omega arith
-
-pub kind_same : {u : Guessed} {k l : AlphabetType} → u ≡ Guessed.Kind k → u ≡ Guessed.Kind l → k ≡ l
-kind_same e f = cc
+pub ok_same : {A B : Type 0} {r : Result A B} {a b : A} → r ≡ Ok a → r ≡ Ok b → a ≡ b
+ok_same e f = cc

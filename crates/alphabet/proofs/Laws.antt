@@ -77,6 +77,12 @@ plain_lawful =
       one_code = λ v w m n e. e;
     }
 
+-- Ascii and Unknown are coded alike
+pub plain_kind : {k : AlphabetType} → (k ≡ Ascii) ⊎ (k ≡ Unknown) → coding k ≡ plain
+unfolding coding
+plain_kind (inl e) = ap coding e
+plain_kind (inr e) = ap coding e
+
 lists_lawful : (k : AlphabetType) → Lawful (coding k)
 unfolding coding
 lists_lawful Dna2bit = listed_lawful 2 dna2bit _ (lit< tt) (lit≤ tt) lists_checked.of_dna2bit
@@ -215,6 +221,11 @@ members fold =
       of_ascii = as-it-is;
       of_unknown = as-it-is;
     }
+
+-- a plain alphabet takes every byte
+pub plain_takes : (fold : Bool) (k : AlphabetType) (v : ℕ) → (k ≡ Ascii) ⊎ (k ≡ Unknown) → (coding_by fold k).member v ≡ ltb v 256
+plain_takes fold k v (inl e) = ap (λ (j : AlphabetType). (coding_by fold j).member v) e ∙ (members fold).of_ascii v
+plain_takes fold k v (inr e) = ap (λ (j : AlphabetType). (coding_by fold j).member v) e ∙ (members fold).of_unknown v
 
 -- ---- a text by the choice
 

@@ -1,66 +1,88 @@
 -- One law for each turn of this crate's loops.
-use Rattle.std.proofs.Common.{◌≡◌, ℕ, suc, ◌+◌, ◌-◌, ◌<◌, ◌≤◌, Bool, true, false, cond, ◌&&◌, ◌||◌, eqb, ◌⊎◌, List, [], ◌∷◌, map}
-use Rattle.std.proofs.Common.{length, get_or, drop, set, sym, refl, ap, ◌∙◌, inl, inr, add-one, arith, length-set, drop_of_length-le, get_or-drop, drop-cons}
-use Rattle.std.proofs.Common.{get_or-set_other, lt-ltb, eq-eqb, ne_eqb}
+use Rattle.std.proofs.Common.{◌≡◌, ℕ, suc, ◌+◌, ◌-◌, ◌<◌, ◌≤◌, Bool, true, false, cond, ◌&&◌, ◌||◌, eqb, ◌⊎◌, List, [], ◌∷◌, ◌++◌, map}
+use Rattle.std.specs.List.{list_any}
+use Rattle.std.proofs.Common.{length, drop, set, sym, refl, ap, ◌∙◌, subst, inl, inr, add-one, arith, length-set, drop_of_length-le, get_or-drop, drop-cons}
+use Rattle.std.proofs.Common.{get_or-set_same, get_or-set_other, le_trans, take, take_all, length-drop, lt-ltb, ne_eqb, replicate}
 use native.Mathlib.Decide.{dec_lt}
-use lib.Bits.{bit_and}
-use lib.Seq.{drop-length}
+use borrow.Author.Tests.{eqb-true, eqb-false}
+use lib.Bits.{bit_and, and_le_l}
+use Rattle.std.proofs.lemmas.List.{take-append-drop, drop-drop, drop-append-le}
 use Rattle.bits.specs.Tables.{tabulate, at, Bytes}
-use Rattle.bits.proofs.Tabulated.{length-tabulate, get_d_tabulate, is_tabulate, tabulate_ext, front_more, with_at, set_tabulate}
+use Rattle.bits.proofs.Tabulated.{length-tabulate, get_d_tabulate, is_tabulate, tabulate_ext, front_more, replicate-tabulate}
 use Rattle.bits.proofs.Computed.{and_true, and_false}
 use Rattle.alphabet.specs.declared.kind.AlphabetType.{AlphabetType}
+use Rattle.alphabet.specs.declared.kind.AlphabetType.TheVariants.{Ascii, Unknown}
 use Rattle.alphabet.specs.Symbols.{symbol_of, code_of, among, found, Coding, listed, plain, coding, canon, folded, upper, folded_entries, folds, coding_by}
 use Rattle.alphabet.specs.Guess.{mask_of, masked}
 use Rattle.alphabet.proofs.Folding.{upper_below, upper_above, upper_between, canon_lt}
-use Rattle.alphabet.proofs.Laws.{at_folded, length-folded}
-use Rattle.alphabet.proofs.Masks.{masked_ascii}
+use Rattle.alphabet.proofs.Laws.{at_folded, length-folded, folded-drop, folded-append, folded_bytes}
+use Rattle.alphabet.proofs.Masks.{masked_ascii, masked-append}
 use Rattle.alphabet.proofs.Pairs.{found_or}
 
--- ---- a table filled from a list, read from its end: place j is for the key j, and holds `none j` where no pair has that key
+-- ---- a table filled from a list, read from its end: place j is for the key j
 
-module _ (n : ℕ) (none : ℕ → ℕ) (key value : List ℕ → ℕ) (pairs : List (List ℕ)) where
-  abbrev pub Filled : ℕ → List ℕ → Type 0
-  Filled i table = table ≡ tabulate n (λ j. found key value (none j) (drop i pairs) j)
-
-  -- nothing is stored yet
-  pub fill_none : (table : List ℕ) → table ≡ tabulate n none → Filled (length pairs) table
+module _ (key value : List ℕ → ℕ) where
+  -- the last pair counts where no pair before it has the key
+  found_push : (none : ℕ) (pairs : List (List ℕ)) (p : List ℕ) (x : ℕ)
+      → found key value none (pairs ++ p ∷ []) x ≡ found key value (cond (eqb x (key p)) (value p) none) pairs x
   unfolding found
-  fill_none table e = e ∙ sym (ap (λ (l : List (List ℕ)). tabulate n (λ j. found key value (none j) l j)) (drop-length pairs))
+  found_push none [] p x = refl
+  found_push none (q ∷ pairs) p x = ap (cond (eqb x (key q)) (value q)) (found_push none pairs p x)
 
-  -- the pair before i counts, wherever its key has a place
-  counted : (table : List ℕ) (i : ℕ) → 0 < i → i ≤ length pairs → (let p = get_or pairs (i - 1) [] in
-      table ≡ tabulate n (λ j. cond (eqb j (key p)) (value p) (found key value (none j) (drop i pairs) j))) → Filled (i - 1) table
-  unfolding found
-  counted table i some h e =
-      let p : List ℕ = get_or pairs (i - 1) [] in
-      let up : suc (i - 1) ≡ i = omega arith in
-      let less : i - 1 < length pairs = omega arith in
-      e
-      ∙ ap (λ (m : ℕ). tabulate n (λ j. found key value (none j) (p ∷ drop m pairs) j)) (sym up)
-      ∙ sym (ap (λ (l : List (List ℕ)). tabulate n (λ j. found key value (none j) l j)) (drop-cons pairs (i - 1) [] less))
+  module _ (n : ℕ) (whole : ℕ → ℕ) where
+    -- pairs that are left to lay, over the table as it is, give the whole
+    pub record Lays (pairs : List (List ℕ)) (table : List ℕ) : Type 0 where
+      pub long : length table ≡ n
+      pub each : (j : ℕ) → j < n → found key value (at table j) pairs j ≡ whole j
 
-  -- it is stored at its key's place k
-  pub fill_more : (table : List ℕ) (i k : ℕ) → 0 < i → i ≤ length pairs → k ≡ key (get_or pairs (i - 1) []) → Filled i table
-      → Filled (i - 1) (set table k (value (get_or pairs (i - 1) [])))
-  fill_more table i k some h q e =
-      let p : List ℕ = get_or pairs (i - 1) [] in
-      let f : ℕ → ℕ = λ j. found key value (none j) (drop i pairs) j in
-      counted (set table k (value p)) i some h
-      (ap (λ (t : List ℕ). set t k (value p)) e ∙ set_tabulate n f k (value p) ∙ ap (λ (x : ℕ). tabulate n (with_at f x (value p))) q)
+    -- the last of them is laid at its key's place
+    pub lay_last : (pairs : List (List ℕ)) (p : List ℕ) (k : ℕ) (table : List ℕ) → k ≡ key p → Lays (pairs ++ p ∷ []) table → Lays pairs (set table k (value p))
+    lay_last pairs p k table q l =
+        record {
+          long = length-set table k (value p) ∙ l.long;
+          each = λ j h. ap (λ (x : ℕ). found key value x pairs j) (stored j h (eqb j k) refl) ∙ sym (found_push (at table j) pairs p j) ∙ l.each j h;
+        }
+      where
+        stored : (j : ℕ) → j < n → (b : Bool) → eqb j k ≡ b → at (set table k (value p)) j ≡ cond (eqb j (key p)) (value p) (at table j)
+        stored j h true e =
+            let here : j ≡ k = eqb-true j k e in
+            ap (at (set table k (value p))) here ∙ get_or-set_same table k (value p) 0 (rw (l.long, sym here) h)
+            ∙ sym (ap (λ (b : Bool). cond b (value p) (at table j)) (ap (eqb j) (sym q) ∙ e))
+        stored j h false e =
+            get_or-set_other table k j (value p) 0 (eqb-false j k e)
+            ∙ sym (ap (λ (b : Bool). cond b (value p) (at table j)) (ap (eqb j) (sym q) ∙ e))
 
-  -- a pair whose key has no place in the table needs no store
-  pub fill_past : (table : List ℕ) (i : ℕ) → 0 < i → i ≤ length pairs → n ≤ key (get_or pairs (i - 1) []) → Filled i table → Filled (i - 1) table
-  fill_past table i some h past e =
-      let p : List ℕ = get_or pairs (i - 1) [] in
-      let f : ℕ → ℕ = λ j. found key value (none j) (drop i pairs) j in
-      counted table i some h
-      (e ∙ tabulate_ext n f _ (λ j l. ap (λ (b : Bool). cond b (value p) (f j)) (sym (ne_eqb j (key p) (λ q. omega arith)))))
+    -- it is left out where its key has no place
+    pub pass_last : (pairs : List (List ℕ)) (p : List ℕ) (table : List ℕ) → n ≤ key p → Lays (pairs ++ p ∷ []) table → Lays pairs table
+    pass_last pairs p table past l =
+        record {
+          long = l.long;
+          each = λ j h.
+              ap (λ (b : Bool). found key value (cond b (value p) (at table j)) pairs j) (sym (ne_eqb j (key p) (λ e. omega arith)))
+              ∙ sym (found_push (at table j) pairs p j)
+              ∙ l.each j h;
+        }
 
-  -- no pair is left
-  pub fill_done : (table : List ℕ) (i : ℕ) → i ≤ 0 → Filled i table → table ≡ tabulate n (λ j. found key value (none j) pairs j)
-  fill_done table i h e =
-      let zero' : i ≡ 0 = omega arith in
-      e ∙ ap (λ (m : ℕ). tabulate n (λ j. found key value (none j) (drop m pairs) j)) zero'
+    -- none is left
+    pub all_laid : (pairs : List (List ℕ)) (table : List ℕ) → length pairs ≡ 0 → Lays pairs table → table ≡ tabulate n whole
+    unfolding found
+    all_laid [] table e l = is_tabulate n whole 0 table l.long l.each
+    all_laid (p ∷ pairs) table e l = absurd (omega (arith, e))
+
+-- a list laid over a table as it is
+pub to_lay : (key value : List ℕ → ℕ) (n : ℕ) (pairs : List (List ℕ)) (table : List ℕ) → length table ≡ n
+    → Lays key value n (λ j. found key value (at table j) pairs j) pairs table
+to_lay key value n pairs table e = record { long = e; each = λ j h. refl }
+
+-- and over one value everywhere
+pub to_lay_over : (key value : List ℕ → ℕ) (n none : ℕ) (pairs : List (List ℕ)) → Lays key value n (λ j. found key value none pairs j) pairs (replicate n none)
+to_lay_over key value n none pairs =
+    record {
+      long = ap length (replicate-tabulate n none) ∙ length-tabulate n (λ j. none);
+      each = λ j h.
+          ap (λ (x : ℕ). found key value x pairs j)
+          (ap (λ (t : List ℕ). at t j) (replicate-tabulate n none) ∙ get_d_tabulate n (λ i. none) j 0 h);
+    }
 
 -- ---- a table that gets an alphabet's codes, and keeps its other entries
 
@@ -155,28 +177,17 @@ module _ (entries : List ℕ) where
   pub laid_whole : (fold : Bool) (k : AlphabetType) → folds k ≡ false → (table : List ℕ) → Laid entries (coding k) table → LaidBy fold k table
   laid_whole fold k not table e = by_choice fold false k table (ap (λ (b : Bool). fold && b) not ∙ and_false fold) e
 
+  pub laid_plain : (fold : Bool) (k : AlphabetType) → (k ≡ Ascii) ⊎ (k ≡ Unknown) → (table : List ℕ) → Laid entries plain table → LaidBy fold k table
+  unfolding coding
+  laid_plain fold k (inl e) table l = subst (λ (j : AlphabetType). LaidBy fold j table) (sym e) (laid_whole fold Ascii refl table l)
+  laid_plain fold k (inr e) table l = subst (λ (j : AlphabetType). LaidBy fold j table) (sym e) (laid_whole fold Unknown refl table l)
+
 -- ---- a list searched for a symbol
 
-module _ (pairs : List (List ℕ)) (v : ℕ) where
-  -- what is left of the list decides
-  abbrev pub Left : ℕ → Type 0
-  Left i = among (map symbol_of (drop i pairs)) v ≡ among (map symbol_of pairs) v
-
-  step : (i : ℕ) → i < length pairs → among (map symbol_of (drop i pairs)) v ≡ eqb v (symbol_of (get_or pairs i [])) || among (map symbol_of (drop (suc i) pairs)) v
-  unfolding among
-  step i h = ap (λ (l : List (List ℕ)). among (map symbol_of l) v) (drop-cons pairs i [] h)
-
-  pub listed_here : (i : ℕ) → i < length pairs → symbol_of (get_or pairs i []) ≡ v → Left i → true ≡ among (map symbol_of pairs) v
-  listed_here i h q e = sym (step i h ∙ ap (λ (b : Bool). b || among (map symbol_of (drop (suc i) pairs)) v) (eq-eqb v (symbol_of (get_or pairs i [])) (sym q))) ∙ e
-
-  pub listed_more : (i : ℕ) → i < length pairs → (symbol_of (get_or pairs i []) ≡ v → ⊥) → Left i → Left (i + 1)
-  listed_more i h q e =
-      rw add-one
-      (sym (step i h ∙ ap (λ (b : Bool). b || among (map symbol_of (drop (suc i) pairs)) v) (ne_eqb v (symbol_of (get_or pairs i [])) (λ r. q (sym r)))) ∙ e)
-
-  pub listed_none : (i : ℕ) → length pairs ≤ i → Left i → false ≡ among (map symbol_of pairs) v
-  unfolding among
-  listed_none i h e = sym (ap (λ (l : List (List ℕ)). among (map symbol_of l) v) (drop_of_length-le pairs h)) ∙ e
+pub any_among : (pairs : List (List ℕ)) (v : ℕ) → list_any (λ (p : List ℕ). eqb v (symbol_of p)) pairs ≡ among (map symbol_of pairs) v
+unfolding among
+any_among [] v = refl
+any_among (p ∷ pairs) v = ap (λ (b : Bool). eqb v (symbol_of p) || b) (any_among pairs v)
 
 -- ---- a text scanned by masks, each byte as what it stands for
 
@@ -202,3 +213,76 @@ scan_done text m i h e = sym (ap (masked m) (drop_of_length-le text h)) ∙ e
 pub scan_break : (text : List ℕ) (m i : ℕ) {r : ℕ} → Bytes text → m ≡ 16 → masked m (drop i text) ≡ r → m ≡ r
 scan_break text m i bytes e q =
     e ∙ sym (masked_ascii (drop i text) (λ j. rw (get_or-drop i text j 0) (bytes (i + j)))) ∙ ap (λ (n : ℕ). masked n (drop i text)) (sym e) ∙ q
+
+-- n bytes that leave a mask as it is are passed
+pub scan_past : (fold : Bool) (text : List ℕ) (m i n : ℕ) {r : ℕ} → masked m (folded fold (take n (drop i text))) ≡ m → masked m (drop i (folded fold text)) ≡ r
+    → masked m (drop (i + n) (folded fold text)) ≡ r
+scan_past fold text m i n same e =
+    let part : List ℕ = drop i text in
+    let both : drop i (folded fold text) ≡ folded fold (take n part) ++ folded fold (drop n part) =
+    sym (folded-drop fold i text) ∙ ap (folded fold) (sym (take-append-drop n part)) ∙ folded-append fold (take n part) (drop n part) in
+    let rest : folded fold (drop n part) ≡ drop (i + n) (folded fold text) = ap (folded fold) (drop-drop n i text) ∙ folded-drop fold (i + n) text in
+    ap (masked m) (sym rest)
+    ∙ sym (ap (masked m) both ∙ masked-append m (folded fold (take n part)) (folded fold (drop n part)) ∙ ap (λ (k : ℕ). masked k (folded fold (drop n part))) same)
+    ∙ e
+
+-- a text scanned by chunks: what is left gives, with the mask, the whole, and is of bytes
+pub record Chunked (fold : Bool) (whole acc : ℕ) (rest : List ℕ) : Type 0 where
+  pub sound : acc ≤ 31
+  pub bytes : Bytes rest
+  pub gives : masked acc (folded fold rest) ≡ whole
+
+-- the bytes of a part of what is left
+bytes_behind : (chunk rest : List ℕ) (n : ℕ) → n ≤ length chunk → Bytes (chunk ++ rest) → Bytes (drop n chunk ++ rest)
+bytes_behind chunk rest n h bytes = subst Bytes (drop-append-le n chunk rest h) (λ i. rw (get_or-drop n (chunk ++ rest) i 0) (bytes (n + i)))
+
+-- what it is at first
+pub chunk_first : (fold : Bool) (mask : ℕ) (text : List ℕ) → mask ≤ 31 → Bytes text → Chunked fold (masked mask (folded fold text)) mask text
+chunk_first fold mask text h bytes = record { sound = h; bytes = bytes; gives = refl }
+
+-- bytes that a chunk begins with and that leave the mask as it is are passed
+pub chunk_passed : (fold : Bool) {whole acc : ℕ} (chunk rest : List ℕ) (start : ℕ) → start ≤ length chunk → masked acc (drop start (folded fold chunk)) ≡ masked acc (folded fold chunk)
+    → Chunked fold whole acc (chunk ++ rest) → Chunked fold whole acc (take (length chunk - start) (drop start chunk) ++ rest)
+chunk_passed fold {whole} {acc} chunk rest start within alike c =
+    let all : take (length chunk - start) (drop start chunk) ≡ drop start chunk = take_all (length chunk - start) (drop start chunk) (omega (arith, length-drop start chunk)) in
+    let both : (l : List ℕ) → masked acc (folded fold (l ++ rest)) ≡ masked (masked acc (folded fold l)) (folded fold rest) =
+    λ l. ap (masked acc) (folded-append fold l rest) ∙ masked-append acc (folded fold l) (folded fold rest) in
+    rw all
+    (record {
+      sound = c.sound;
+      bytes = bytes_behind chunk rest start within c.bytes;
+      gives = both (drop start chunk)
+          ∙ ap (λ (m : ℕ). masked m (folded fold rest)) (ap (masked acc) (folded-drop fold start chunk) ∙ alike)
+          ∙ sym (both chunk)
+          ∙ c.gives;
+    })
+
+-- a byte is taken
+pub chunk_byte : (fold : Bool) {whole acc : ℕ} (table part rest : List ℕ) (i v : ℕ) → table ≡ tabulate 256 (λ x. mask_of (canon fold x)) → v ≡ at part i → i < length part
+    → Chunked fold whole acc (drop i part ++ rest) → Chunked fold whole (bit_and acc (at table v)) (drop (i + 1) part ++ rest)
+chunk_byte fold {whole} {acc} table part rest i v t q h c =
+    let left : List ℕ = drop i part ++ rest in
+    let tail : List ℕ = drop (i + 1) part ++ rest in
+    let split : left ≡ at part i ∷ tail = rw add-one (ap (λ (l : List ℕ). l ++ rest) (drop-cons part i 0 h)) in
+    let first : at left 0 ≡ at part i = ap (λ (l : List ℕ). at l 0) split in
+    let some : 0 < length left = rw split (lit<' tail) in
+    let behind : drop (0 + 1) (folded fold left) ≡ folded fold tail = sym (folded-drop fold 1 left) ∙ ap (λ (l : List ℕ). folded fold (drop 1 l)) split in
+    record {
+      sound = le_trans (and_le_l acc (at table v)) c.sound;
+      bytes = λ j. subst Bytes split c.bytes (suc j);
+      gives = ap (masked (bit_and acc (at table v))) (sym behind) ∙ scan_more fold table left acc 0 v t (q ∙ sym first) (rw (q, sym first) (c.bytes 0)) some c.gives;
+    }
+  where
+    lit<' : (l : List ℕ) → 0 < length (at part i ∷ l)
+    lit<' l = omega arith
+
+-- all bytes of a chunk are taken
+pub chunk_taken : (fold : Bool) {whole acc : ℕ} (part rest : List ℕ) (i : ℕ) → length part ≤ i → Chunked fold whole acc (drop i part ++ rest) → Chunked fold whole acc rest
+chunk_taken fold part rest i h c = rw (drop_of_length-le part h) at c
+
+-- nothing is left, or only Ascii remains
+pub chunk_none : (fold : Bool) {whole acc : ℕ} (rest : List ℕ) → length rest ≡ 0 → Chunked fold whole acc rest → acc ≡ whole
+chunk_none fold {whole} {acc} rest none c = scan_done (folded fold rest) acc 0 (omega (arith, none, length-folded fold rest)) c.gives
+
+pub chunk_ascii : (fold : Bool) {whole acc : ℕ} (rest : List ℕ) → acc ≡ 16 → Chunked fold whole acc rest → acc ≡ whole
+chunk_ascii fold {whole} {acc} rest e c = scan_break (folded fold rest) acc 0 (folded_bytes fold rest c.bytes) e c.gives

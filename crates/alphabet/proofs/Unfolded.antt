@@ -1,12 +1,12 @@
 -- Without folding all is as before: what request A1 gave the choice to is, at `false`, the equation that document 01 had. By computation.
-use Rattle.std.proofs.Common.{◌≡◌, ℕ, false, ◌&&◌, List, [], ◌∷◌, refl}
+use Rattle.std.proofs.Common.{◌≡◌, ℕ, false, ◌&&◌, List, [], ◌∷◌, refl, Ok, Err}
 use Rattle.alphabet.specs.Questions.{ask◌else◌then◌, by}
+use Rattle.alphabet.specs.Refusing.{◌keeping◌}
 use Rattle.alphabet.specs.Symbols.{coding, coding_by}
 use Rattle.alphabet.specs.Names.{numbered, numbered_by}
 use Rattle.alphabet.specs.Guess.{masked, lowest, guess_of, holds_all, fresh_guesser, sound_guesser, guesser_update_at}
 use Rattle.alphabet.specs.declared.kind.AlphabetType.{AlphabetType}
 use Rattle.alphabet.specs.declared.guesser.AlphabetGuesser.{AlphabetGuesser}
-use Rattle.alphabet.specs.declared.guesser.GuesserUpdated.{GuesserUpdated}
 
 -- a guesser that does not fold
 abbrev plainly : ℕ → AlphabetGuesser
@@ -23,7 +23,7 @@ pub record AsBefore : Type 0 where
   pub starts : fresh_guesser false ≡ plainly 31
   pub updates : (m : ℕ) (text : List ℕ)
       → guesser_update_at (plainly m) text
-      ≡ (ask sound_guesser (plainly m) else GuesserUpdated.Refused (by 1 []) (plainly m) then GuesserUpdated.Next (plainly (masked m text)))
+      ≡ (ask sound_guesser (plainly m) else Err (by 1 [] keeping (plainly m)) then Ok (plainly (masked m text)))
 
 pub as_before : AsBefore
 unfolding guess_of holds_all fresh_guesser guesser_update_at

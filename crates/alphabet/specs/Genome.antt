@@ -1,24 +1,24 @@
 -- One alphabet for a genome. States request A9, "Guess per chromosome, answer per genome": the later of two alphabets, what the guesses of a list of texts come to,
 -- and the claim about texts.
-use Rattle.std.specs.Prelude.{◌≡◌, ℕ, ◌<◌, Bool, true, cond, ◌&&◌, List, [], ◌++◌, map, length, nat_le, slice_index_or}
+use Rattle.std.specs.Prelude.{◌≡◌, ℕ, ◌<◌, Bool, true, cond, ◌&&◌, List, [], ◌++◌, map, length, nat_le, slice_index_or, Result, Ok, Err}
 use mathlib.Core.List.{foldl, flatten, Perm}
 use Rattle.bits.specs.Tables.{Bytes}
+use Rattle.alphabet.specs.declared.refusal.Refusal.{Refusal}
 use Rattle.alphabet.specs.Questions.{ask◌else◌then◌, by}
 use Rattle.alphabet.specs.Names.{number_of, known, kind_of}
 use Rattle.alphabet.specs.Guess.{guess_of, holds_all}
 use Rattle.alphabet.specs.declared.kind.AlphabetType.{AlphabetType}
 use Rattle.alphabet.specs.declared.kind.AlphabetType.TheVariants.{Dna2bit}
-use Rattle.alphabet.specs.declared.kind.Named.{Named}
 
 -- the later of two in the alphabet order, which is that of the numbers
 unfoldable pub later : AlphabetType → AlphabetType → AlphabetType
 later one other = cond (nat_le (number_of one) (number_of other)) other one
 
 -- `later_alphabet`: question 1 is asked of both numbers
-unfoldable pub later_at : ℕ → ℕ → Named
+unfoldable pub later_at : ℕ → ℕ → Result AlphabetType Refusal
 later_at one other =
-    ask known one && known other else Named.Refused (by 8 []) then
-    Named.Kind (later (kind_of one) (kind_of other))
+    ask known one && known other else Err (by 8 []) then
+    Ok (later (kind_of one) (kind_of other))
 
 -- what a list of guesses comes to: one after another, from Dna2bit on
 unfoldable pub latest : List AlphabetType → AlphabetType

@@ -1,13 +1,13 @@
 -- The guesser. States document 01, "Leaf 2: the guesser", the mask of "Leaf 1", question 4 for the guesser, and the choice of request A1.
-use Rattle.std.specs.Prelude.{ℕ, ◌+◌, ◌*◌, ◌/◌, ◌%◌, ◌^◌, Bool, true, cond, ◌&&◌, List, [], ◌∷◌, ◌==◌, bit_and, nat_le, slice_index_or}
+use Rattle.std.specs.Prelude.{ℕ, ◌+◌, ◌*◌, ◌/◌, ◌%◌, ◌^◌, Bool, true, cond, ◌&&◌, List, [], ◌∷◌, ◌==◌, bit_and, nat_le, slice_index_or, Result, Ok, Err}
 use Rattle.std.specs.Int.Count.{count_trailing_zeros}
 use Rattle.alphabet.specs.Questions.{ask◌else◌then◌, by}
+use Rattle.alphabet.specs.Refusing.{◌keeping◌}
 use Rattle.alphabet.specs.Symbols.{coding, folded, coding_by}
 use Rattle.alphabet.specs.declared.kind.AlphabetType.{AlphabetType}
 use Rattle.alphabet.specs.declared.kind.AlphabetType.TheVariants.{Dna2bit, Dna3bit, DnaIupac, Protein, Ascii, Unknown}
+use Rattle.alphabet.specs.declared.refusal.Refused.{Refused}
 use Rattle.alphabet.specs.declared.guesser.AlphabetGuesser.{AlphabetGuesser}
-use Rattle.alphabet.specs.declared.guesser.GuesserUpdated.{GuesserUpdated}
-use Rattle.alphabet.specs.declared.guesser.Guessed.{Guessed}
 
 -- ---- masks
 
@@ -68,11 +68,11 @@ abbrev pub guesser_after : AlphabetGuesser → List ℕ → AlphabetGuesser
 guesser_after g text = record { acc = masked g.acc (folded g.fold text); fold = g.fold }
 
 -- `update`
-unfoldable pub guesser_update_at : AlphabetGuesser → List ℕ → GuesserUpdated
+unfoldable pub guesser_update_at : AlphabetGuesser → List ℕ → Result AlphabetGuesser (Refused AlphabetGuesser)
 guesser_update_at g text =
-    ask sound_guesser g else GuesserUpdated.Refused (by 1 []) g then
-    GuesserUpdated.Next (guesser_after g text)
+    ask sound_guesser g else Err (by 1 [] keeping g) then
+    Ok (guesser_after g text)
 
 -- `guess`: the alphabet of the state's mask
-unfoldable pub guess_at : AlphabetGuesser → Guessed
-guess_at g = ask sound_guesser g else Guessed.Refused (by 1 []) g then Guessed.Kind (lowest g.acc)
+unfoldable pub guess_at : AlphabetGuesser → Result AlphabetType (Refused AlphabetGuesser)
+guess_at g = ask sound_guesser g else Err (by 1 [] keeping g) then Ok (lowest g.acc)

@@ -1,12 +1,11 @@
 -- Display names and numbers. States the last two points of document 01, "Leaf 1: symbols and codes", and question 1.
-use Rattle.std.specs.Prelude.{ℕ, ◌-◌, Bool, List, [], ◌∷◌, ◌++◌, length, replicate, nat_le, slice_index_or}
+use Rattle.std.specs.Prelude.{ℕ, Bool, List, [], ◌∷◌, nat_le, slice_index_or, Result, Ok, Err}
 use Rattle.bits.specs.Tables.{bytes_of}
+use Rattle.alphabet.specs.declared.refusal.Refusal.{Refusal}
 use Rattle.alphabet.specs.Questions.{ask◌else◌then◌, by}
 use Rattle.alphabet.specs.Symbols.{Coding, coding, coding_by}
 use Rattle.alphabet.specs.declared.kind.AlphabetType.{AlphabetType}
 use Rattle.alphabet.specs.declared.kind.AlphabetType.TheVariants.{Dna2bit, Dna3bit, DnaIupac, Protein, Ascii, Unknown}
-use Rattle.alphabet.specs.declared.kind.Name.{Name}
-use Rattle.alphabet.specs.declared.kind.Named.{Named}
 
 -- an alphabet's display name
 unfoldable pub display_name_of : AlphabetType → List ℕ
@@ -16,10 +15,6 @@ display_name_of DnaIupac = bytes_of "dnaio"
 display_name_of Protein = bytes_of "protein"
 display_name_of Ascii = bytes_of "ASCII"
 display_name_of Unknown = bytes_of "Unknown"
-
--- the same in seven bytes, with zeros behind it
-unfoldable pub name_of : AlphabetType → Name
-name_of k = record { bytes = display_name_of k ++ replicate (7 - length (display_name_of k)) 0; len = length (display_name_of k) }
 
 -- the six kinds in the order of their numbers
 abbrev pub kinds : List AlphabetType
@@ -50,6 +45,6 @@ numbered number = coding (kind_of number)
 abbrev pub numbered_by : Bool → ℕ → Coding
 numbered_by fold number = coding_by fold (kind_of number)
 
--- `kind_of_number`
-unfoldable pub named_at : ℕ → Named
-named_at number = ask known number else Named.Refused (by 8 []) then Named.Kind (kind_of number)
+-- the kind that a number names
+unfoldable pub named_at : ℕ → Result AlphabetType Refusal
+named_at number = ask known number else Err (by 8 []) then Ok (kind_of number)

@@ -3,6 +3,7 @@ use Rattle.std.specs.Prelude.{ℕ, suc, ◌-◌, ◌^◌, Bool, true, false, con
 use Prim.Native.Char.{code as ascii}
 use Rattle.bits.specs.Tables.{at, tabulate, bytes_of}
 use Rattle.alphabet.specs.declared.kind.AlphabetType.{AlphabetType}
+use Rattle.alphabet.specs.declared.text.TextAlphabet.{TextAlphabet}
 use Rattle.alphabet.specs.declared.kind.AlphabetType.TheVariants.{Dna2bit, Dna3bit, DnaIupac, Protein, Ascii, Unknown}
 
 -- ---- the four symbol lists
@@ -134,6 +135,10 @@ through f A =
 -- the coding that texts are packed by, with the caller's choice
 abbrev pub coding_by : Bool → AlphabetType → Coding
 coding_by fold k = through (canon (fold && folds k)) (coding k)
+
+-- the coding of an alphabet that a text is taken by
+abbrev pub coding_of : TextAlphabet → Coding
+coding_of t = coding_by t.fold t.kind
 
 -- ---- the check of a list, the Rust's `check_symbols`
 

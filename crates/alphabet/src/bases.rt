@@ -20,15 +20,14 @@ pub fn telling_bits(fold: bool) -> u8
     0xFF
 }
 
-// Whether 64 bytes, from byte i on, stand for bases. It leaves no byte out and stops at none, so that the compiler may test many at once.
-fn are_bases(fold: bool, text: &[u8], i: usize) -> bool
-    requires { i + 64 ≤ length text.now }
-    ensures { result ≡ true → Bases (folded fold text.now) i 64 }
+// Whether a text has bytes alone that stand for bases. It leaves no byte out and stops at none, so that the compiler may test many at once.
+fn are_bases(fold: bool, text: &[u8]) -> bool
+    ensures { result ≡ true → Bases (folded fold text.now) 0 (length text.now) }
 {
     let bits = telling_bits(fold);
     let mut all = true;
-    for j in 0..64 {
-        all = all & is_base(text[i + j] & bits);
+    for &byte in text {
+        all = all & is_base(byte & bits);
     }
     all
 }
@@ -37,15 +36,14 @@ fn are_bases(fold: bool, text: &[u8], i: usize) -> bool
 fn pass_run(fold: bool, text: &[u8]) -> usize
     ensures { Run (folded fold text.now) result }
 {
-    let n = text.len();
-    let mut i = 0;
-    while 64 <= n - i {
-        if !are_bases(fold, text, i) {
+    let blocks = text.len() / 64;
+    for k in 0..blocks {
+        let i = k * 64;
+        if !are_bases(fold, &text[i..i + 64]) {
             return i;
         }
-        i += 64;
     }
-    i
+    blocks * 64
 }
 
 // The same; how far it goes is free. The choice is a constant at each of the two calls, so that the compiler makes a loop for each.

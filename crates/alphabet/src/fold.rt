@@ -2,17 +2,14 @@
 ghost use Rattle.std.specs.Prelude.{◌≡◌};
 ghost use Rattle.alphabet.specs.Symbols.{folded_entries};
 
-use bits::least;
-
 // Gives each byte's place in a table the entry of what the byte stands for: with folding 26 entries are copied. A table is folded where it lies, so that who does not
 // fold pays for the question alone.
-pub fn fold_entries(fold: bool, table: &mut [u8])
+pub fn fold_entries(fold: bool, table: &mut [u8; 256])
     ensures { table.new ≡ folded_entries fold table.old }
 {
     if fold {
-        let end = least(123, table.len());
-        for v in 97..end {
-            table[v] = table[v - 32];
+        for v in b'a'..=b'z' {
+            table[usize::from(v)] = table[usize::from(v - 32)];
         }
     }
 }

@@ -7,9 +7,8 @@ ghost use Rattle.alphabet.specs.Answers.{guesser_updated_reply, guesser_update_t
 
 use crate::bases::pass_bases;
 use crate::kind::AlphabetType;
-use crate::mask::{ALPHABET_ORDER, masks_by};
-use crate::refusal::Refusal;
-use bits::place;
+use crate::mask::{ALPHABET_ORDER, Masks};
+use crate::refusal::{Refusal, Refused};
 
 // The mask while every alphabet is possible.
 const ALL_ALPHABETS: u8 = 31;
@@ -21,24 +20,10 @@ const ASCII_BIT: u8 = 16;
 const GUESS_CHUNK: usize = 4096;
 
 // The guesser's state: bit i of `acc` is set while alphabet i of ALPHABET_ORDER can hold every byte seen, by the choice to fold.
-#[derive(Clone, Copy)]
+#[derive(Clone, Copy, Debug, PartialEq, Eq, Hash)]
 pub struct AlphabetGuesser {
     pub acc: u8,
     pub fold: bool,
-}
-
-// What `update` answers.
-#[derive(Clone, Copy)]
-pub enum GuesserUpdated {
-    Next(AlphabetGuesser),
-    Refused(Refusal, AlphabetGuesser),
-}
-
-// What `guess` answers.
-#[derive(Clone, Copy)]
-pub enum Guessed {
-    Kind(AlphabetType),
-    Refused(Refusal, AlphabetGuesser),
 }
 
 impl AlphabetGuesser {
@@ -60,119 +45,81 @@ impl AlphabetGuesser {
     }
 
     // The state after a text; an unsound state is refused by 1 and comes back as it was.
-    pub fn update(self, sequence: &[u8]) -> GuesserUpdated
+    pub fn update(self, sequence: &[u8]) -> Result<AlphabetGuesser, Refused<AlphabetGuesser>>
         ensures value { result ≡ guesser_update_at self sequence.now }
         ensures told { guesser_updated_reply result ≡ guesser_update_told self sequence.now }
     {
         if !self.is_sound() {
-            return GuesserUpdated::Refused(Refusal::Unsound, self);
+            return Err(Refusal::Unsound.keeping(self));
         }
-        let acc = self.acc;
-        if acc == ASCII_BIT {
-            return GuesserUpdated::Next(self);
+        if self.acc == ASCII_BIT {
+            return Ok(self);
         }
         let fold = self.fold;
-        GuesserUpdated::Next(AlphabetGuesser {
-            acc: scan(acc, fold, sequence),
-            fold,
-        })
+        let acc = scan(self.acc, fold, sequence);
+        Ok(AlphabetGuesser { acc, fold })
     }
 
     // The alphabet whose place in the order is the count of the mask's trailing zero bits; an unsound state is refused by 1.
-    pub fn guess(self) -> Guessed
+    pub fn guess(self) -> Result<AlphabetType, Refused<AlphabetGuesser>>
         ensures value { result ≡ guess_at self }
         ensures told { guessed_reply result ≡ guess_told self }
     {
         if !self.is_sound() {
-            return Guessed::Refused(Refusal::Unsound, self);
+            return Err(Refusal::Unsound.keeping(self));
         }
-        let i = u8::trailing_zeros(self.acc) as usize;
-        let kind = ALPHABET_ORDER[i];
-        Guessed::Kind(kind)
+        let i = self.acc.trailing_zeros() as usize;
+        Ok(ALPHABET_ORDER[i])
     }
 }
 
-// A mask once those of eight bytes, from byte i on, are ANDed to it. The table has for each byte the mask of what it stands for.
-fn after_eight(masks: &[u8; 256], fold: bool, acc: u8, text: &[u8], i: usize) -> u8
-    requires { (masks.now ≡ tabulate 256 (λ v. mask_of (canon fold v))) × (i + 8 ≤ length text.now) }
-    ensures { masked result (drop (i + 8) (folded fold text.now)) ≡ masked acc (drop i (folded fold text.now)) }
-{
-    let mut m = acc;
-    for j in 0..8 {
-        m = m & masks[place(text[i + j])];
-    }
-    m
-}
-
-// Passes bytes that leave a mask as it is, eight at a time, and stops no later than `end`.
-fn pass_eights(
-    masks: &[u8; 256],
-    fold: bool,
-    acc: u8,
-    text: &[u8],
-    start: usize,
-    end: usize,
-) -> usize
-    requires { (masks.now ≡ tabulate 256 (λ v. mask_of (canon fold v))) × ((start ≤ end) × (end ≤ length text.now)) }
-    ensures { ((start ≤ result) × (result ≤ end)) × (masked acc (drop result (folded fold text.now)) ≡ masked acc (drop start (folded fold text.now))) }
-{
-    let mut i = start;
-    while 8 <= end - i {
-        if after_eight(masks, fold, acc, text, i) != acc {
-            return i;
+impl Masks {
+    // A mask once those of a text's bytes are ANDed to it.
+    fn after(&self, acc: u8, text: &[u8]) -> u8
+        ensures { result ≡ masked acc (folded self.now.fold text.now) }
+    {
+        let mut m = acc;
+        for &byte in text {
+            m = m & self.of_bytes[usize::from(byte)];
         }
-        i += 8;
+        m
     }
-    i
-}
 
-// The same, where bases are passed first, 64 at a time: they leave every mask as it is.
-fn pass_alike(
-    masks: &[u8; 256],
-    fold: bool,
-    acc: u8,
-    text: &[u8],
-    start: usize,
-    end: usize,
-) -> usize
-    requires { ((masks.now ≡ tabulate 256 (λ v. mask_of (canon fold v))) × ((start ≤ end) × (end ≤ length text.now))) × (acc ≤ 31) }
-    ensures { ((start ≤ result) × (result ≤ end)) × (masked acc (drop result (folded fold text.now)) ≡ masked acc (drop start (folded fold text.now))) }
-{
-    let bases = pass_bases(fold, &text[start..end]);
-    pass_eights(masks, fold, acc, text, start + bases, end)
-}
-
-// Where the chunk that starts at `at` ends.
-fn chunk_end(at: usize, len: usize) -> usize
-    requires { at < len }
-    ensures { (at < result) × (result ≤ len) }
-{
-    if GUESS_CHUNK < len - at {
-        return at + GUESS_CHUNK;
-    }
-    len
-}
-
-// A sound mask once each byte's mask is ANDed to it, up to the byte after which only Ascii remains: no later one changes it.
-fn scan_chunks(mask: u8, fold: bool, sequence: &[u8]) -> u8
-    requires { (16 ≤ mask) × (mask ≤ 31) }
-    ensures { result ≡ masked mask (folded fold sequence.now) }
-{
-    let masks = masks_by(fold);
-    let mut acc = mask;
-    let mut at = 0;
-    'scan: while at < sequence.len() {
-        let end = chunk_end(at, sequence.len());
-        let start = pass_alike(&masks, fold, acc, sequence, at, end);
-        for i in start..end {
-            acc = acc & masks[place(sequence[i])];
-            if acc == ASCII_BIT {
-                break 'scan;
+    // Passes bytes that a text begins with and that leave a mask as it is, and tells how many: bases first, 64 at a time, which leave every mask as it is, and then
+    // eight at a time.
+    fn pass_alike(&self, acc: u8, text: &[u8]) -> usize
+        requires { acc ≤ 31 }
+        ensures within { result ≤ length text.now }
+        ensures alike { masked acc (drop result (folded self.now.fold text.now)) ≡ masked acc (folded self.now.fold text.now) }
+    {
+        let bases = pass_bases(self.fold, text);
+        let eights = (text.len() - bases) / 8;
+        for k in 0..eights {
+            let i = bases + k * 8;
+            if self.after(acc, &text[i..i + 8]) != acc {
+                return i;
             }
         }
-        at = end;
+        bases + eights * 8
     }
-    acc
+
+    // A sound mask once each byte's mask is ANDed to it, up to the byte after which only Ascii remains: no later one changes it.
+    fn scan(&self, mask: u8, text: &[u8]) -> u8
+        requires { (16 ≤ mask) × (mask ≤ 31) }
+        ensures { result ≡ masked mask (folded self.now.fold text.now) }
+    {
+        let mut acc = mask;
+        'chunks: for chunk in text.chunks(GUESS_CHUNK) {
+            let start = self.pass_alike(acc, chunk);
+            for &byte in &chunk[start..] {
+                acc = acc & self.of_bytes[usize::from(byte)];
+                if acc == ASCII_BIT {
+                    break 'chunks;
+                }
+            }
+        }
+        acc
+    }
 }
 
 // The same. The bases that a text begins with are passed before the table of masks is laid out: most texts, and most pieces, have nothing else. The scan by
@@ -186,9 +133,9 @@ fn scan(mask: u8, fold: bool, sequence: &[u8]) -> u8
         return mask;
     }
     if fold {
-        return scan_chunks(mask, true, &sequence[start..]);
+        return Masks::by(true).scan(mask, &sequence[start..]);
     }
-    scan_chunks(mask, false, &sequence[start..])
+    Masks::by(false).scan(mask, &sequence[start..])
 }
 
 // The guess for a whole text, by the caller's choice to fold: `new`, `update` and `guess` in one. No state is handed from one to the next, since that would cost a
@@ -197,8 +144,5 @@ pub fn guess_alphabet(fold: bool, sequence: &[u8]) -> AlphabetType
     ensures { result ≡ guess_of fold sequence.now }
 {
     let acc = scan(ALL_ALPHABETS, fold, sequence);
-    let Guessed::Kind(kind) = AlphabetGuesser { acc, fold }.guess() else {
-        return AlphabetType::Unknown;
-    };
-    kind
+    AlphabetGuesser { acc, fold }.guess().unwrap()
 }

@@ -9,11 +9,12 @@ mod mask;
 mod membership;
 mod refusal;
 mod symbols;
+mod text;
 
 pub use bases::telling_bits;
-pub use guesser::{AlphabetGuesser, Guessed, GuesserUpdated, guess_alphabet};
-pub use kind::{AlphabetType, Name, Named, kind_of_number, later_alphabet};
+pub use guesser::{AlphabetGuesser, guess_alphabet};
+pub use kind::{AlphabetType, later_alphabet};
 pub use mask::ALPHABET_ORDER;
-pub use membership::takes;
-pub use refusal::Refusal;
-pub use symbols::{INVALID_CODE, contains, decoding_array, lay_codes};
+pub use refusal::{Refusal, Refused};
+pub use symbols::{DecodingTable, INVALID_CODE, contains};
+pub use text::TextAlphabet;

@@ -1,11 +1,12 @@
 // The four symbol lists, and what follows from them: encoding, decoding, membership.
-ghost use Rattle.std.specs.Prelude.{◌≡◌, ◌&&◌, map, length, if◌then◌else◌};
+ghost use Rattle.std.specs.Prelude.{◌≡◌, ◌==◌, ◌≤◌, ◌&&◌, ℕ, List, length, if◌then◌else◌};
+ghost use Rattle.std.specs.List.{list_any};
 ghost use Rattle.bits.specs.Tables.{tabulate, at};
-ghost use Rattle.alphabet.specs.Symbols.{symbol_of, code_of, found, among, canon, folds, folded_entries, coding, coding_by};
+ghost use Rattle.alphabet.specs.Symbols.{symbol_of, code_of, found, among, canon, folds, folded_entries, coding, coding_of};
 
 use crate::fold::fold_entries;
 use crate::kind::AlphabetType;
-use bits::place;
+use crate::text::TextAlphabet;
 
 // The encoding table's entry for a byte that is no member.
 pub const INVALID_CODE: u8 = 0xFF;
@@ -79,62 +80,20 @@ const PROTEIN_SYMBOLS: [[u8; 2]; 29] = [
 
 // Gives each symbol's place in a table by the bytes' values the symbol's code. The list is read from its end, so that of two pairs with one symbol the first would
 // count.
-fn lay(symbols: &[[u8; 2]], table: &mut [u8])
-    requires { length table.old ≡ 256 }
+fn lay(symbols: &[[u8; 2]], table: &mut [u8; 256])
     ensures { table.new ≡ tabulate 256 (λ v. found symbol_of code_of (at table.old v) symbols.now v) }
 {
-    let mut i = symbols.len();
-    while 0 < i {
-        i -= 1;
-        table[place(symbols[i][0])] = symbols[i][1];
+    for &[symbol, code] in symbols.iter().rev() {
+        table[usize::from(symbol)] = code;
     }
 }
 
 // The same, and then each lowercase letter's place gets the entry of its uppercase letter, where that is chosen.
-fn lay_folded(symbols: &[[u8; 2]], fold: bool, table: &mut [u8])
-    requires { length table.old ≡ 256 }
+fn lay_folded(symbols: &[[u8; 2]], fold: bool, table: &mut [u8; 256])
     ensures { table.new ≡ folded_entries fold (tabulate 256 (λ v. found symbol_of code_of (at table.old v) symbols.now v)) }
 {
     lay(symbols, table);
     fold_entries(fold, table);
-}
-
-// The table of each code's symbol, for codes of at most five bits; a code that the list lacks decodes to `unassigned`.
-fn build_decoding(symbols: &[[u8; 2]], unassigned: u8) -> [u8; 32]
-    ensures { result ≡ tabulate 32 (found code_of symbol_of unassigned symbols.now) }
-{
-    let mut table = [unassigned; 32];
-    let mut i = symbols.len();
-    while 0 < i {
-        i -= 1;
-        let c = place(symbols[i][1]);
-        if c < 32 {
-            table[c] = symbols[i][0];
-        }
-    }
-    table
-}
-
-// Whether a byte is among a list's symbols; codes are not looked at.
-fn is_listed(symbols: &[[u8; 2]], byte: u8) -> bool
-    ensures { result ≡ among (map symbol_of symbols.now) byte }
-{
-    for i in 0..symbols.len() {
-        if symbols[i][0] == byte {
-            return true;
-        }
-    }
-    false
-}
-
-// Gives each byte's place in a table by the bytes' values the byte itself: in Ascii it is its own code.
-fn lay_bytes(table: &mut [u8])
-    requires { length table.old ≡ 256 }
-    ensures { table.new ≡ tabulate 256 (λ v. v) }
-{
-    for v in 0..256usize {
-        table[v] = v as u8;
-    }
 }
 
 // The codes 0 to 31: in Ascii they are their own symbols.
@@ -142,40 +101,78 @@ fn identity_32() -> [u8; 32]
     ensures { result ≡ tabulate 32 (λ c. c) }
 {
     let mut table = [0; 32];
-    for c in 0..32usize {
-        table[c] = c as u8;
+    lay_bytes(&mut table);
+    table
+}
+
+// The table of each code's symbol, for codes of at most five bits; a code that the list lacks decodes to `unassigned`.
+fn build_decoding(symbols: &[[u8; 2]], unassigned: u8) -> [u8; 32]
+    ensures { result ≡ tabulate 32 (found code_of symbol_of unassigned symbols.now) }
+{
+    let mut table = [unassigned; 32];
+    for &[symbol, code] in symbols.iter().rev() {
+        if code < 32 {
+            table[usize::from(code)] = symbol;
+        }
     }
     table
 }
 
-// Gives each byte that stands for a symbol, by the choice to fold, the symbol's code in a table by the bytes' values; all others keep what the caller put at the place of
-// what they stand for. The table is written where it lies: handed out by value it would be copied, which a short piece would notice. Each list is folded where it is
-// laid, and not all of them at one place behind: the compiler would else make one code of the four lists, which a short piece would notice too.
-pub fn lay_codes(kind: AlphabetType, fold: bool, table: &mut [u8; 256])
-    ensures { table.new
-        ≡ tabulate 256 (λ v. (if (coding_by fold kind).member v then (coding_by fold kind).code v else at table.old (canon (fold && folds kind) v))) }
+// Whether a byte is among a list's symbols; codes are not looked at.
+fn is_listed(symbols: &[[u8; 2]], byte: u8) -> bool
+    ensures { result ≡ list_any (λ (pair : List ℕ). byte == symbol_of pair) symbols.now }
 {
-    match kind {
-        AlphabetType::Dna2bit => lay_folded(&DNA_2BIT_SYMBOLS, fold, table),
-        AlphabetType::Dna3bit => lay_folded(&DNA_3BIT_SYMBOLS, fold, table),
-        AlphabetType::DnaIupac => lay_folded(&DNA_IUPAC_SYMBOLS, fold, table),
-        AlphabetType::Protein => lay_folded(&PROTEIN_SYMBOLS, fold, table),
-        AlphabetType::Ascii => lay_bytes(table),
-        AlphabetType::Unknown => lay_bytes(table),
+    symbols.iter().any(|&[symbol, _]| byte == symbol)
+}
+
+// Gives each place in a table of at most 256 entries its own number: in Ascii a byte is its own code, and a code its own symbol.
+fn lay_bytes(table: &mut [u8])
+    requires { length table.old ≤ 256 }
+    ensures { table.new ≡ tabulate (length table.old) (λ v. v) }
+{
+    for (v, entry) in table.iter_mut().enumerate() {
+        *entry = v as u8;
     }
 }
 
-// The symbols of the codes 0 to 31: every code of the four packed alphabets. To be had once per call, not per base.
-pub fn decoding_array(kind: AlphabetType) -> [u8; 32]
-    ensures { result ≡ tabulate 32 (coding kind).symbol }
-{
-    match kind {
-        AlphabetType::Dna2bit => build_decoding(&DNA_2BIT_SYMBOLS, b'N'),
-        AlphabetType::Dna3bit => build_decoding(&DNA_3BIT_SYMBOLS, b'N'),
-        AlphabetType::DnaIupac => build_decoding(&DNA_IUPAC_SYMBOLS, b'N'),
-        AlphabetType::Protein => build_decoding(&PROTEIN_SYMBOLS, b'X'),
-        AlphabetType::Ascii => identity_32(),
-        AlphabetType::Unknown => identity_32(),
+impl TextAlphabet {
+    // Gives each byte that stands for a symbol, by the choice to fold, the symbol's code in a table by the bytes' values; all others keep what the caller put at the place of
+    // what they stand for. The table is written where it lies: handed out by value it would be copied, which a short piece would notice. Each list is folded where it is
+    // laid, and not all of them at one place behind: the compiler would else make one code of the four lists, which a short piece would notice too.
+    pub fn lay_codes(self, table: &mut [u8; 256])
+        ensures { table.new
+            ≡ tabulate 256 (λ v. (if (coding_of self).member v then (coding_of self).code v else at table.old (canon (self.fold && folds self.kind) v))) }
+    {
+        match self.kind {
+            AlphabetType::Dna2bit => lay_folded(&DNA_2BIT_SYMBOLS, self.fold, table),
+            AlphabetType::Dna3bit => lay_folded(&DNA_3BIT_SYMBOLS, self.fold, table),
+            AlphabetType::DnaIupac => lay_folded(&DNA_IUPAC_SYMBOLS, self.fold, table),
+            AlphabetType::Protein => lay_folded(&PROTEIN_SYMBOLS, self.fold, table),
+            AlphabetType::Ascii | AlphabetType::Unknown => lay_bytes(table),
+        }
+    }
+}
+
+// An alphabet's symbols by their codes, 0 to 31: every code of the four packed alphabets. To be had once per call, not per base.
+#[derive(Clone, Copy)]
+pub struct DecodingTable {
+    pub kind: AlphabetType,
+    pub symbols: [u8; 32],
+    ghost laid: { symbols ≡ tabulate 32 (coding kind).symbol },
+}
+
+impl DecodingTable {
+    pub fn of(kind: AlphabetType) -> Self
+        ensures { result.kind ≡ kind }
+    {
+        let symbols = match kind {
+            AlphabetType::Dna2bit => build_decoding(&DNA_2BIT_SYMBOLS, b'N'),
+            AlphabetType::Dna3bit => build_decoding(&DNA_3BIT_SYMBOLS, b'N'),
+            AlphabetType::DnaIupac => build_decoding(&DNA_IUPAC_SYMBOLS, b'N'),
+            AlphabetType::Protein => build_decoding(&PROTEIN_SYMBOLS, b'X'),
+            AlphabetType::Ascii | AlphabetType::Unknown => identity_32(),
+        };
+        DecodingTable { kind, symbols }
     }
 }
 
@@ -188,7 +185,6 @@ pub fn contains(kind: AlphabetType, byte: u8) -> bool
         AlphabetType::Dna3bit => is_listed(&DNA_3BIT_SYMBOLS, byte),
         AlphabetType::DnaIupac => is_listed(&DNA_IUPAC_SYMBOLS, byte),
         AlphabetType::Protein => is_listed(&PROTEIN_SYMBOLS, byte),
-        AlphabetType::Ascii => true,
-        AlphabetType::Unknown => true,
+        AlphabetType::Ascii | AlphabetType::Unknown => true,
     }
 }
