@@ -29,8 +29,9 @@ abbrev pub FirstLacking : Coding → List ℕ → ℕ → ℕ → ℕ → Option
 FirstLacking A lent offset start end None = first_lacking_of A lent offset start end ≡ end
 FirstLacking A lent offset start end (Some i) = (i ≡ first_lacking_of A lent offset start end) × (i < end)
 
--- a block: c codes of an alphabet fill n bytes, and these and one more write a number of at most 64 bits
+-- a block: c codes of an alphabet, of at most five bits, fill n bytes, and these and one more write a number of at most 64 bits
 pub record Fills (A : Coding) (c n : ℕ) : Type 0 where
+  pub five : A.width ≤ 5
   pub some : 0 < n
   pub few : n ≤ 7
   pub whole : c * A.width ≡ n * 8

@@ -11,8 +11,7 @@ ghost use Rattle.windows.specs.Workers.{Fills};
 
 use crate::engine::Engine;
 use crate::lent::Lent;
-use crate::table::DecodingTable;
-use alphabet::AlphabetType;
+use alphabet::{AlphabetType, DecodingTable};
 use bits::{field, push_byte};
 
 // The number that at most eight bytes write; the search for codes without a symbol takes it too.
@@ -84,7 +83,7 @@ fn blocks<const C: usize, const N: usize>(
 
 // The bases from base `start` on, one at a time.
 fn singles(table: &DecodingTable, lent: &Lent<'_>, start: usize, out: &mut [u8])
-    requires { start + length out.old ≤ 2 ^ 60 }
+    requires { ((coding table.now.kind).width ≤ 5) × (start + length out.old ≤ 2 ^ 60) }
     ensures { out.new ≡ window (coding table.now.kind) lent.now.bytes.now lent.now.offset start (length out.old) }
 {
     let b = table.kind.bits_per_symbol();
@@ -95,7 +94,7 @@ fn singles(table: &DecodingTable, lent: &Lent<'_>, start: usize, out: &mut [u8])
 
 // Eight bases from N bytes, and one at a time what is left, and where bytes are not lent: eight codes of an alphabet fill as many bytes as each has bits.
 fn eights<const N: usize>(table: &DecodingTable, lent: &Lent<'_>, start: usize, out: &mut [u8])
-    requires { ((coding table.now.kind).width ≡ N) × (start + length out.old ≤ 2 ^ 60) }
+    requires { ((coding table.now.kind).width ≡ N × N ≤ 5) × (start + length out.old ≤ 2 ^ 60) }
     ensures { out.new ≡ window (coding table.now.kind) lent.now.bytes.now lent.now.offset start (length out.old) }
 {
     let done = blocks::<8, N>(table, lent, start, out);
@@ -111,7 +110,7 @@ impl Engine for ThreeBits {
 
     fn write(self, bytes: &[u8], offset: usize, start: usize, out: &mut [u8]) {
         let lent = Lent { bytes, offset };
-        let table = DecodingTable::new(AlphabetType::Dna3bit);
+        let table = DecodingTable::of(AlphabetType::Dna3bit);
         eights::<3>(&table, &lent, start, out);
     }
 }
@@ -125,7 +124,7 @@ impl Engine for FourBits {
 
     fn write(self, bytes: &[u8], offset: usize, start: usize, out: &mut [u8]) {
         let lent = Lent { bytes, offset };
-        let table = DecodingTable::new(AlphabetType::DnaIupac);
+        let table = DecodingTable::of(AlphabetType::DnaIupac);
         let done = blocks::<14, 7>(&table, &lent, start, out);
         eights::<4>(&table, &lent, start + done, &mut out[done..]);
     }
@@ -140,7 +139,7 @@ impl Engine for FiveBits {
 
     fn write(self, bytes: &[u8], offset: usize, start: usize, out: &mut [u8]) {
         let lent = Lent { bytes, offset };
-        let table = DecodingTable::new(AlphabetType::Protein);
+        let table = DecodingTable::of(AlphabetType::Protein);
         eights::<5>(&table, &lent, start, out);
     }
 }

@@ -9,7 +9,6 @@ ghost use Rattle.windows.specs.Workers.{symbols_of};
 
 use crate::engine::Engine;
 use crate::lent::Lent;
-use std::num::wrapping_add_u8;
 
 // How long a window is for which a loop without shifts gains more than the two branches by its start may cost.
 const LONG: usize = 512;
@@ -21,7 +20,7 @@ fn base_in(byte: u8, t: usize) -> u8
     ensures { result ≡ at (symbols_of (coding Dna2bit) 4 byte) t }
 {
     let code = (byte >> ((3 - t) * 2)) % 4;
-    wrapping_add_u8(code * 2, 254).min(b'T' ^ b'C') ^ b'C'
+    (code * 2).wrapping_add(254).min(b'T' ^ b'C') ^ b'C'
 }
 
 // A byte's four bases.

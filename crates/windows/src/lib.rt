@@ -10,9 +10,8 @@ mod lent;
 mod plain;
 mod read;
 mod rolling;
-mod table;
 
 pub use read::{
-    Read, decode_2bit, decode_3bit, decode_4bit, decode_5bit, decode_covered, decode_rolling,
+    decode_2bit, decode_3bit, decode_4bit, decode_5bit, decode_covered, decode_rolling,
     decode_string_from_bytes, decode_substring_from_bytes, decode_substring_from_bytes_at_offset,
 };

@@ -13,15 +13,7 @@ use crate::lacking::first_lacking;
 use crate::lent::Lent;
 use crate::plain::copy_file;
 use crate::rolling::roll;
-use crate::table::DecodingTable;
-use alphabet::{AlphabetType, Refusal};
-
-// What every read of a window answers: the bases written.
-#[derive(Clone, Copy)]
-pub enum Read {
-    Bases(usize),
-    Refused(Refusal),
-}
+use alphabet::{AlphabetType, DecodingTable, Refusal};
 
 // The engine of any kind: the rolling accumulator; plain bytes are copied.
 #[derive(Clone, Copy)]
@@ -38,7 +30,7 @@ impl Engine for Rolling {
             copy_file(&lent, start, out);
             return;
         }
-        roll(&DecodingTable::new(self.kind), &lent, start, out);
+        roll(&DecodingTable::of(self.kind), &lent, start, out);
     }
 }
 
@@ -74,20 +66,17 @@ fn zero_filling<E: Engine>(
     start: usize,
     end: usize,
     out: &mut [u8],
-) -> Read
+) -> Result<usize, Refusal>
     requires { E.kind engine ≡ kind_of alphabet }
     ensures value { result ≡ read_at alphabet lent.now.offset start end (length out.old) }
     ensures out_after { out.new ≡ read_memory alphabet lent.now.bytes.now lent.now.offset start end out.old }
 {
-    let told = asked(alphabet, lent.offset, start, end, out.len());
-    let Read::Bases(count) = told else {
-        return told;
-    };
+    let count = asked(alphabet, lent.offset, start, end, out.len())?;
     if count == 0 {
-        return told;
+        return Ok(0);
     }
     engine.write(lent.bytes, lent.offset, start, &mut out[..count]);
-    told
+    Ok(count)
 }
 
 // The bases from `start` to `end` of the file of which `bytes` are the bytes from `byte_offset` on, written at the front of `out`.
@@ -99,7 +88,7 @@ pub fn decode_substring_from_bytes_at_offset(
     start: usize,
     end: usize,
     out: &mut [u8],
-) -> Read
+) -> Result<usize, Refusal>
     ensures value { result ≡ read_at alphabet byte_offset start end (length out.old) }
     ensures out_after { out.new ≡ read_memory alphabet bytes.now byte_offset start end out.old }
 {
@@ -118,7 +107,7 @@ pub fn decode_substring_from_bytes(
     start: usize,
     end: usize,
     out: &mut [u8],
-) -> Read
+) -> Result<usize, Refusal>
     ensures value { result ≡ read_at alphabet 0 start end (length out.old) }
     ensures out_after { out.new ≡ read_memory alphabet bytes.now 0 start end out.old }
 {
@@ -126,7 +115,12 @@ pub fn decode_substring_from_bytes(
 }
 
 // The first `seq_len` bases.
-pub fn decode_string_from_bytes(alphabet: u64, bytes: &[u8], seq_len: usize, out: &mut [u8]) -> Read
+pub fn decode_string_from_bytes(
+    alphabet: u64,
+    bytes: &[u8],
+    seq_len: usize,
+    out: &mut [u8],
+) -> Result<usize, Refusal>
     ensures value { result ≡ read_at alphabet 0 0 seq_len (length out.old) }
     ensures out_after { out.new ≡ read_memory alphabet bytes.now 0 0 seq_len out.old }
 {
@@ -142,7 +136,7 @@ pub fn decode_covered(
     start: usize,
     end: usize,
     out: &mut [u8],
-) -> Read
+) -> Result<usize, Refusal>
     ensures value { result ≡ covered_at alphabet bytes.now byte_offset start end (length out.old) }
     ensures out_after { out.new ≡ covered_memory alphabet bytes.now byte_offset start end out.old }
 {
@@ -150,19 +144,16 @@ pub fn decode_covered(
         bytes,
         offset: byte_offset,
     };
-    let told = asked_covered(alphabet, &lent, start, end, out.len());
-    let Read::Bases(count) = told else {
-        return told;
-    };
+    let count = asked_covered(alphabet, &lent, start, end, out.len())?;
     if count == 0 {
-        return told;
+        return Ok(0);
     }
     let kind = kind_of(alphabet);
     if let Some(first) = first_lacking(kind, &lent, start, end) {
-        return Read::Refused(Refusal::NoSymbol(first));
+        return Err(Refusal::NoSymbol(first));
     }
     Own { kind }.write(bytes, byte_offset, start, &mut out[..count]);
-    told
+    Ok(count)
 }
 
 // The engine of Dna2bit: four bases from a byte.
@@ -172,7 +163,7 @@ pub fn decode_2bit(
     start: usize,
     end: usize,
     out: &mut [u8],
-) -> Read
+) -> Result<usize, Refusal>
     ensures value { result ≡ read_at 0 byte_offset start end (length out.old) }
     ensures out_after { out.new ≡ read_memory 0 bytes.now byte_offset start end out.old }
 {
@@ -190,7 +181,7 @@ pub fn decode_3bit(
     start: usize,
     end: usize,
     out: &mut [u8],
-) -> Read
+) -> Result<usize, Refusal>
     ensures value { result ≡ read_at 1 byte_offset start end (length out.old) }
     ensures out_after { out.new ≡ read_memory 1 bytes.now byte_offset start end out.old }
 {
@@ -208,7 +199,7 @@ pub fn decode_4bit(
     start: usize,
     end: usize,
     out: &mut [u8],
-) -> Read
+) -> Result<usize, Refusal>
     ensures value { result ≡ read_at 2 byte_offset start end (length out.old) }
     ensures out_after { out.new ≡ read_memory 2 bytes.now byte_offset start end out.old }
 {
@@ -226,7 +217,7 @@ pub fn decode_5bit(
     start: usize,
     end: usize,
     out: &mut [u8],
-) -> Read
+) -> Result<usize, Refusal>
     ensures value { result ≡ read_at 3 byte_offset start end (length out.old) }
     ensures out_after { out.new ≡ read_memory 3 bytes.now byte_offset start end out.old }
 {
@@ -245,7 +236,7 @@ pub fn decode_rolling(
     start: usize,
     end: usize,
     out: &mut [u8],
-) -> Read
+) -> Result<usize, Refusal>
     ensures value { result ≡ read_at alphabet byte_offset start end (length out.old) }
     ensures out_after { out.new ≡ read_memory alphabet bytes.now byte_offset start end out.old }
 {

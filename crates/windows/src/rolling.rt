@@ -6,7 +6,7 @@ ghost use Rattle.windows.specs.Window.{window};
 ghost use Rattle.windows.specs.Workers.{Holds};
 
 use crate::lent::Lent;
-use crate::table::DecodingTable;
+use alphabet::DecodingTable;
 use bits::{field, push_byte};
 
 // Bits that were read and not yet used: the `have` ones before byte `next`. They are the low bits of `acc`; what stands above them is used.
@@ -58,7 +58,7 @@ impl Held {
 
 // The bases from base `start` on.
 pub fn roll(table: &DecodingTable, lent: &Lent<'_>, start: usize, out: &mut [u8])
-    requires { start + length out.old ≤ 2 ^ 60 }
+    requires { ((coding table.now.kind).width ≤ 5) × (start + length out.old ≤ 2 ^ 60) }
     ensures { out.new ≡ window (coding table.now.kind) lent.now.bytes.now lent.now.offset start (length out.old) }
 {
     let b = table.kind.bits_per_symbol();

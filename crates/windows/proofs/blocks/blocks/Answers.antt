@@ -35,5 +35,5 @@ loop-m-preserved g c =
     next_begun (coding t.kind) _ _ a.start g.row.C m _ a.out.now c.loop-m.out c.spread.new.out (omega arith) c.loop-m.invariant
     (c.spread.ensures
     ∙ ap (λ (n : ℕ). map (at t.symbols) (fields b n (c.number-w.result / 2 ^ (8 - bit % 8)))) (part_length c.loop-m.out (m * g.row.C) _ g.row.C (omega arith) room)
-    ∙ block_written (coding t.kind) bytes a.lent.now.offset a.start g.row.C g.row.N b m _ from c.number-w.result t.symbols c.requires.0.whole t.five t.entries c.bits_per_symbol-b.ensures
+    ∙ block_written (coding t.kind) bytes a.lent.now.offset a.start g.row.C g.row.N b m _ from c.number-w.result t.symbols c.requires.0.whole c.requires.0.five t.laid c.bits_per_symbol-b.ensures
     (omega arith) refl (omega arith) lies c.number-w.ensures)

@@ -7,7 +7,7 @@ use Rattle.windows.proofs.blocks.eights.Goals as goal
 pub blocks-done-requires : goal.blocks-done-requires
 blocks-done-requires g c =
     let k = c.args.table.now in
-    (record { some = omega (arith, (lawful false k.kind).some_bits, c.requires.0); few = omega (arith, k.five, c.requires.0); whole = omega (arith, c.requires.0) }, c.requires.1)
+    (record { five = omega (arith, c.requires.0); some = omega (arith, (lawful false k.kind).some_bits, c.requires.0); few = omega (arith, c.requires.0); whole = omega (arith, c.requires.0) }, c.requires.1)
 
 pub returns : goal.returns
 returns g c =

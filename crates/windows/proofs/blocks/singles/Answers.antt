@@ -9,13 +9,13 @@ pub code-requires : goal.code-requires
 code-requires c =
     let t = c.args.table.now in
     let b = c.bits_per_symbol-b in
-    (bit_fits (omega arith) (omega (arith, t.five, b.ensures)), (omega (arith, (lawful false t.kind).some_bits, b.ensures), omega (arith, t.five, b.ensures)))
+    (bit_fits (omega arith) (omega (arith, c.requires.0, b.ensures)), (omega (arith, (lawful false t.kind).some_bits, b.ensures), omega (arith, c.requires.0, b.ensures)))
 
 pub bounds-table-code : goal.bounds-table-code
 bounds-table-code c =
     let t = c.args.table.now in
     let b = c.bits_per_symbol-b in
-    (decoded (coding t.kind) _ _ b.result _ c.code.result _ (sym b.ensures) (omega (arith, t.five, b.ensures)) t.entries c.code.ensures).0
+    (decoded (coding t.kind) _ _ b.result _ c.code.result _ (sym b.ensures) (omega (arith, c.requires.0, b.ensures)) t.laid c.code.ensures).0
 
 pub loop-n-preserved : goal.loop-n-preserved
 loop-n-preserved c =
@@ -24,7 +24,7 @@ loop-n-preserved c =
     let b = c.bits_per_symbol-b in
     let l = c.loop-n in
     let base =
-    decoded (coding t.kind) a.lent.now.bytes.now a.lent.now.offset b.result (a.start + l.n) c.code.result t.symbols (sym b.ensures) (omega (arith, t.five, b.ensures)) t.entries c.code.ensures in
+    decoded (coding t.kind) a.lent.now.bytes.now a.lent.now.offset b.result (a.start + l.n) c.code.result t.symbols (sym b.ensures) (omega (arith, c.requires.0, b.ensures)) t.laid c.code.ensures in
     below_more _ _ (λ i h. let ne : i ≢ l.n = omega arith in rw get_or-set_other (l.invariant i h))
     (let lt : l.n < length l.out = omega arith in rw get_or-set_same base.1)
 

@@ -3,39 +3,39 @@ use Rattle.windows.specs.Window.{read_memory}
 use Rattle.windows.proofs.Answering.{accepted, refused-after, empty-after, bases_after}
 use Rattle.windows.proofs.read.zero_filling.Goals as goal
 
-pub returns-in_default-clause-out_after : goal.returns-in_default-clause-out_after
+pub returns-in_err-count-clause-out_after : goal.returns-in_err-count-clause-out_after
 unfolding read_memory
-returns-in_default-clause-out_after g c =
+returns-in_err-count-clause-out_after g c =
     let a = c.args in
-    refused-after a.alphabet a.lent.now.bytes.now a.lent.now.offset a.start a.out.now _ _ (sym c.asked-told.ensures ∙ c.in_default.is)
+    refused-after a.alphabet a.lent.now.bytes.now a.lent.now.offset a.start a.out.now _ _ (sym c.asked.ensures ∙ c.in_err-count.was)
 
 pub returns-then-count-eq0-clause-out_after : goal.returns-then-count-eq0-clause-out_after
 unfolding read_memory
 returns-then-count-eq0-clause-out_after g c =
     let a = c.args in
-    empty-after a.alphabet a.lent.now.bytes.now a.lent.now.offset a.start a.out.now _ _ (sym c.asked-told.ensures ∙ c.in-Bases.is) c.if-count-eq0.true
+    empty-after a.alphabet a.lent.now.bytes.now a.lent.now.offset a.start a.out.now _ _ (sym c.asked.ensures ∙ c.in_ok-count.was) c.if-count-eq0.true
 
 pub slice_bounds-write-end : goal.slice_bounds-write-end
 slice_bounds-write-end g c =
     let a = c.args in
-    (accepted a.alphabet a.lent.now.offset a.start a.end (length a.out.now) c.asked-told.result c.in-Bases.count c.asked-told.ensures c.in-Bases.is c.if-count-eq0.false).1
+    (accepted a.alphabet a.lent.now.offset a.start a.end (length a.out.now) c.asked.result c.in_ok-count.count c.asked.ensures c.in_ok-count.was c.if-count-eq0.false).1
 
 pub slice_bounds-write-end-2 : goal.slice_bounds-write-end-2
 slice_bounds-write-end-2 g c =
     let a = c.args in
-    let fits = accepted a.alphabet a.lent.now.offset a.start a.end (length a.out.now) c.asked-told.result c.in-Bases.count c.asked-told.ensures c.in-Bases.is c.if-count-eq0.false in
-    sym (length-take-le c.in-Bases.count a.out.now fits.1)
+    let fits = accepted a.alphabet a.lent.now.offset a.start a.end (length a.out.now) c.asked.result c.in_ok-count.count c.asked.ensures c.in_ok-count.was c.if-count-eq0.false in
+    sym (length-take-le c.in_ok-count.count a.out.now fits.1)
 
 pub write-requires : goal.write-requires
 write-requires g c =
     let a = c.args in
-    let fits = accepted a.alphabet a.lent.now.offset a.start a.end (length a.out.now) c.asked-told.result c.in-Bases.count c.asked-told.ensures c.in-Bases.is c.if-count-eq0.false in
-    omega (arith, length-take-le c.in-Bases.count a.out.now fits.1, fits.0)
+    let fits = accepted a.alphabet a.lent.now.offset a.start a.end (length a.out.now) c.asked.result c.in_ok-count.count c.asked.ensures c.in_ok-count.was c.if-count-eq0.false in
+    omega (arith, length-take-le c.in_ok-count.count a.out.now fits.1, fits.0)
 
 pub returns-clause-out_after : goal.returns-clause-out_after
 unfolding read_memory
 returns-clause-out_after g c =
     let a = c.args in
-    let fits = accepted a.alphabet a.lent.now.offset a.start a.end (length a.out.now) c.asked-told.result c.in-Bases.count c.asked-told.ensures c.in-Bases.is c.if-count-eq0.false in
-    bases_after a.alphabet a.lent.now.bytes.now a.lent.now.offset a.start a.out.now _ _ c.in-Bases.count _ c.write.new.out (sym c.asked-told.ensures ∙ c.in-Bases.is) c.requires
-    (length-take-le c.in-Bases.count a.out.now fits.1) c.write.ensures
+    let fits = accepted a.alphabet a.lent.now.offset a.start a.end (length a.out.now) c.asked.result c.in_ok-count.count c.asked.ensures c.in_ok-count.was c.if-count-eq0.false in
+    bases_after a.alphabet a.lent.now.bytes.now a.lent.now.offset a.start a.out.now _ _ c.in_ok-count.count _ c.write.new.out (sym c.asked.ensures ∙ c.in_ok-count.was) c.requires
+    (length-take-le c.in_ok-count.count a.out.now fits.1) c.write.ensures

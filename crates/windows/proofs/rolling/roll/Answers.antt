@@ -9,7 +9,7 @@ pub bounds-table-field : goal.bounds-table-field
 bounds-table-field c =
     let a = c.args in
     let r = c.refill-held in
-    (next_base (coding a.table.now.kind) _ _ c.bits_per_symbol-b.result _ c.field.result _ r.result a.lent.now.small c.bits_per_symbol-b.ensures a.table.now.five a.table.now.entries
+    (next_base (coding a.table.now.kind) _ _ c.bits_per_symbol-b.result _ c.field.result _ r.result a.lent.now.small c.bits_per_symbol-b.ensures c.requires.0 a.table.now.laid
     (r.ensures.2 _ c.loop-base.invariant.1) r.ensures.0 r.ensures.1 c.field.ensures).0
 
 pub loop-base-preserved : goal.loop-base-preserved
@@ -20,7 +20,7 @@ loop-base-preserved c =
     let b : ℕ = c.bits_per_symbol-b.result in
     let base =
     next_base (coding a.table.now.kind) a.lent.now.bytes.now a.lent.now.offset b (a.start + l.base-index) c.field.result a.table.now.symbols r.result a.lent.now.small c.bits_per_symbol-b.ensures
-    a.table.now.five a.table.now.entries (r.ensures.2 _ l.invariant.1) r.ensures.0 r.ensures.1 c.field.ensures in (
+    c.requires.0 a.table.now.laid (r.ensures.2 _ l.invariant.1) r.ensures.0 r.ensures.1 c.field.ensures in (
       omega (arith, r.ensures),
       rw (← one_on a.start l.base-index b) (take_rest _ (λ j. file_small _ _ j a.lent.now.small) b _ r.result (r.ensures.2 _ l.invariant.1) r.ensures.0 _ refl refl refl),
       below_more _ _ (λ i h. let ne : i ≢ l.base-index = omega arith in rw get_or-set_other (l.invariant.2 i h))
