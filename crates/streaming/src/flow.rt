@@ -94,6 +94,7 @@ impl<'a, const B: usize> Packed<'a, B> {
         let from = self.start.flow.taken;
         let mut acc = self.start.flow.acc;
         let count = (self.start.limit(out.len()) / 8).min((source.len() - from) / B);
+        // By number: a turn cuts a part of the source and one of the memory, and of what `chunks_exact_mut` lends no proof knows what is written.
         for k in 0..count {
             let next = from + k * B;
             let bits = gather(&source[next..next + B], acc);

@@ -64,6 +64,7 @@ impl<const B: usize> Singles<B> {
     {
         let mut rows = [0u16; 1024];
         let all = power(B * 2) as usize;
+        // v is the number that is looked up, and its place.
         for v in 0..all {
             rows[v] = pair(
                 self.table.symbols[field(v as u64, B, B)],
