@@ -1,12 +1,12 @@
 -- One law for each turn of this crate's loops.
-use Rattle.std.proofs.Common.{◌≡◌, ℕ, ◌+◌, ◌-◌, ◌<◌, ◌≤◌, Bool, true, false, cond, ◌&&◌, ◌||◌, eqb, ◌⊎◌, List, [], ◌∷◌, ◌++◌, map}
+use Rattle.std.proofs.Common.{◌≡◌, ℕ, suc, ◌+◌, ◌-◌, ◌<◌, ◌≤◌, Bool, true, false, cond, ◌&&◌, ◌||◌, eqb, ◌⊎◌, List, [], ◌∷◌, ◌++◌, map}
 use Rattle.std.specs.List.{list_any}
 use Rattle.std.proofs.Common.{length, drop, set, sym, refl, ap, ◌∙◌, subst, inl, inr, add-one, arith, length-set, drop_of_length-le, get_or-drop, drop-cons}
-use Rattle.std.proofs.Common.{get_or-set_same, get_or-set_other, get_or-append-add, take, take_all, length-drop, lt-ltb, ne_eqb, replicate}
+use Rattle.std.proofs.Common.{get_or-set_same, get_or-set_other, le_trans, take, take_all, length-drop, lt-ltb, ne_eqb, replicate}
 use native.Mathlib.Decide.{dec_lt}
 use borrow.Author.Tests.{eqb-true, eqb-false}
-use lib.Bits.{bit_and}
-use Rattle.std.proofs.lemmas.List.{take-append-drop, drop-drop}
+use lib.Bits.{bit_and, and_le_l}
+use Rattle.std.proofs.lemmas.List.{take-append-drop, drop-drop, drop-append-le}
 use Rattle.bits.specs.Tables.{tabulate, at, Bytes}
 use Rattle.bits.proofs.Tabulated.{length-tabulate, get_d_tabulate, is_tabulate, tabulate_ext, front_more, replicate-tabulate}
 use Rattle.bits.proofs.Computed.{and_true, and_false}
@@ -16,7 +16,7 @@ use Rattle.alphabet.specs.Symbols.{symbol_of, code_of, among, found, Coding, lis
 use Rattle.alphabet.specs.Guess.{mask_of, masked}
 use Rattle.alphabet.proofs.Folding.{upper_below, upper_above, upper_between, canon_lt}
 use Rattle.alphabet.proofs.Laws.{at_folded, length-folded, folded-drop, folded-append, folded_bytes}
-use Rattle.alphabet.proofs.Masks.{masked_ascii, masked-append, masked_le}
+use Rattle.alphabet.proofs.Masks.{masked_ascii, masked-append}
 use Rattle.alphabet.proofs.Pairs.{found_or}
 
 -- ---- a table filled from a list, read from its end: place j is for the key j
@@ -232,26 +232,55 @@ pub record Chunked (fold : Bool) (whole acc : ℕ) (rest : List ℕ) : Type 0 wh
   pub bytes : Bytes rest
   pub gives : masked acc (folded fold rest) ≡ whole
 
--- a chunk's mask is that of the bytes behind those that leave the mask as it is
-pub chunk_narrowed : (fold : Bool) (chunk : List ℕ) (acc start narrowed : ℕ) → masked acc (drop start (folded fold chunk)) ≡ masked acc (folded fold chunk)
-    → narrowed ≡ masked acc (folded fold (take (length chunk - start) (drop start chunk))) → narrowed ≡ masked acc (folded fold chunk)
-chunk_narrowed fold chunk acc start narrowed alike e =
+-- the bytes of a part of what is left
+bytes_behind : (chunk rest : List ℕ) (n : ℕ) → n ≤ length chunk → Bytes (chunk ++ rest) → Bytes (drop n chunk ++ rest)
+bytes_behind chunk rest n h bytes = subst Bytes (drop-append-le n chunk rest h) (λ i. rw (get_or-drop n (chunk ++ rest) i 0) (bytes (n + i)))
+
+-- what it is at first
+pub chunk_first : (fold : Bool) (mask : ℕ) (text : List ℕ) → mask ≤ 31 → Bytes text → Chunked fold (masked mask (folded fold text)) mask text
+chunk_first fold mask text h bytes = record { sound = h; bytes = bytes; gives = refl }
+
+-- bytes that a chunk begins with and that leave the mask as it is are passed
+pub chunk_passed : (fold : Bool) {whole acc : ℕ} (chunk rest : List ℕ) (start : ℕ) → start ≤ length chunk → masked acc (drop start (folded fold chunk)) ≡ masked acc (folded fold chunk)
+    → Chunked fold whole acc (chunk ++ rest) → Chunked fold whole acc (take (length chunk - start) (drop start chunk) ++ rest)
+chunk_passed fold {whole} {acc} chunk rest start within alike c =
     let all : take (length chunk - start) (drop start chunk) ≡ drop start chunk = take_all (length chunk - start) (drop start chunk) (omega (arith, length-drop start chunk)) in
-    e ∙ ap (λ (l : List ℕ). masked acc (folded fold l)) all ∙ ap (masked acc) (folded-drop fold start chunk) ∙ alike
-
--- it goes on behind a chunk
-pub chunk_more : (fold : Bool) (chunk rest : List ℕ) {acc whole : ℕ} (narrowed : ℕ) → narrowed ≡ masked acc (folded fold chunk) → Chunked fold whole acc (chunk ++ rest)
-    → Chunked fold whole narrowed rest
-chunk_more fold chunk rest {acc} narrowed e c =
-    record {
-      sound = omega (arith, e, masked_le acc (folded fold chunk), c.sound);
-      bytes = λ i. subst (λ (v : ℕ). v < 256) (get_or-append-add chunk rest i 0) (c.bytes (length chunk + i));
-      gives = ap (λ (m : ℕ). masked m (folded fold rest)) e
-          ∙ sym (ap (masked acc) (folded-append fold chunk rest) ∙ masked-append acc (folded fold chunk) (folded fold rest))
+    let both : (l : List ℕ) → masked acc (folded fold (l ++ rest)) ≡ masked (masked acc (folded fold l)) (folded fold rest) =
+    λ l. ap (masked acc) (folded-append fold l rest) ∙ masked-append acc (folded fold l) (folded fold rest) in
+    rw all
+    (record {
+      sound = c.sound;
+      bytes = bytes_behind chunk rest start within c.bytes;
+      gives = both (drop start chunk)
+          ∙ ap (λ (m : ℕ). masked m (folded fold rest)) (ap (masked acc) (folded-drop fold start chunk) ∙ alike)
+          ∙ sym (both chunk)
           ∙ c.gives;
-    }
+    })
 
--- it is done where nothing is left, or where only Ascii remains
+-- a byte is taken
+pub chunk_byte : (fold : Bool) {whole acc : ℕ} (table part rest : List ℕ) (i v : ℕ) → table ≡ tabulate 256 (λ x. mask_of (canon fold x)) → v ≡ at part i → i < length part
+    → Chunked fold whole acc (drop i part ++ rest) → Chunked fold whole (bit_and acc (at table v)) (drop (i + 1) part ++ rest)
+chunk_byte fold {whole} {acc} table part rest i v t q h c =
+    let left : List ℕ = drop i part ++ rest in
+    let tail : List ℕ = drop (i + 1) part ++ rest in
+    let split : left ≡ at part i ∷ tail = rw add-one (ap (λ (l : List ℕ). l ++ rest) (drop-cons part i 0 h)) in
+    let first : at left 0 ≡ at part i = ap (λ (l : List ℕ). at l 0) split in
+    let some : 0 < length left = rw split (lit<' tail) in
+    let behind : drop (0 + 1) (folded fold left) ≡ folded fold tail = sym (folded-drop fold 1 left) ∙ ap (λ (l : List ℕ). folded fold (drop 1 l)) split in
+    record {
+      sound = le_trans (and_le_l acc (at table v)) c.sound;
+      bytes = λ j. subst Bytes split c.bytes (suc j);
+      gives = ap (masked (bit_and acc (at table v))) (sym behind) ∙ scan_more fold table left acc 0 v t (q ∙ sym first) (rw (q, sym first) (c.bytes 0)) some c.gives;
+    }
+  where
+    lit<' : (l : List ℕ) → 0 < length (at part i ∷ l)
+    lit<' l = omega arith
+
+-- all bytes of a chunk are taken
+pub chunk_taken : (fold : Bool) {whole acc : ℕ} (part rest : List ℕ) (i : ℕ) → length part ≤ i → Chunked fold whole acc (drop i part ++ rest) → Chunked fold whole acc rest
+chunk_taken fold part rest i h c = rw (drop_of_length-le part h) at c
+
+-- nothing is left, or only Ascii remains
 pub chunk_none : (fold : Bool) {whole acc : ℕ} (rest : List ℕ) → length rest ≡ 0 → Chunked fold whole acc rest → acc ≡ whole
 chunk_none fold {whole} {acc} rest none c = scan_done (folded fold rest) acc 0 (omega (arith, none, length-folded fold rest)) c.gives
 

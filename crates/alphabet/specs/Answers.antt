@@ -24,6 +24,11 @@ named_told number = ask known number else refused 8 [] then accepted (number ∷
 abbrev pub later_told : ℕ → ℕ → Reply
 later_told one other = ask known one && known other else refused 8 [] then accepted (max one other ∷ [])
 
+-- a count, or a refusal
+abbrev pub count_reply : Result ℕ Refusal → Reply
+count_reply (Ok count) = accepted (count ∷ [])
+count_reply (Err q) = refusal_reply q
+
 -- the choice by number: 1 to fold, 0 not to
 abbrev pub fold_number : Bool → ℕ
 fold_number true = 1

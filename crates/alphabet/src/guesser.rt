@@ -52,15 +52,12 @@ impl AlphabetGuesser {
         if !self.is_sound() {
             return Err(Refusal::Unsound.keeping(self));
         }
-        let acc = self.acc;
-        if acc == ASCII_BIT {
+        if self.acc == ASCII_BIT {
             return Ok(self);
         }
         let fold = self.fold;
-        Ok(AlphabetGuesser {
-            acc: scan(acc, fold, sequence),
-            fold,
-        })
+        let acc = scan(self.acc, fold, sequence);
+        Ok(AlphabetGuesser { acc, fold })
     }
 
     // The alphabet whose place in the order is the count of the mask's trailing zero bits; an unsound state is refused by 1.
@@ -71,7 +68,7 @@ impl AlphabetGuesser {
         if !self.is_sound() {
             return Err(Refusal::Unsound.keeping(self));
         }
-        let i = u8::trailing_zeros(self.acc) as usize;
+        let i = self.acc.trailing_zeros() as usize;
         Ok(ALPHABET_ORDER[i])
     }
 }
@@ -106,31 +103,19 @@ impl Masks {
         bases + eights * 8
     }
 
-    // The same as `after`, up to the byte after which only Ascii remains: no later one changes a sound mask.
-    fn narrowed(&self, mask: u8, text: &[u8]) -> u8
-        ensures { result ≡ masked mask (folded self.now.fold text.now) }
-    {
-        let mut m = mask;
-        for &byte in text {
-            m = m & self.of_bytes[usize::from(byte)];
-            if m == ASCII_BIT {
-                break;
-            }
-        }
-        m
-    }
-
-    // A sound mask once each byte's mask is ANDed to it.
+    // A sound mask once each byte's mask is ANDed to it, up to the byte after which only Ascii remains: no later one changes it.
     fn scan(&self, mask: u8, text: &[u8]) -> u8
         requires { (16 ≤ mask) × (mask ≤ 31) }
         ensures { result ≡ masked mask (folded self.now.fold text.now) }
     {
         let mut acc = mask;
-        for chunk in text.chunks(GUESS_CHUNK) {
+        'chunks: for chunk in text.chunks(GUESS_CHUNK) {
             let start = self.pass_alike(acc, chunk);
-            acc = self.narrowed(acc, &chunk[start..]);
-            if acc == ASCII_BIT {
-                break;
+            for &byte in &chunk[start..] {
+                acc = acc & self.of_bytes[usize::from(byte)];
+                if acc == ASCII_BIT {
+                    break 'chunks;
+                }
             }
         }
         acc

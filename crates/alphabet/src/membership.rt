@@ -6,14 +6,13 @@ ghost use Rattle.alphabet.specs.declared.kind.AlphabetType.TheVariants.{Dna3bit,
 use crate::bases::{is_base, telling_bits};
 use crate::kind::AlphabetType;
 use crate::text::TextAlphabet;
-use std::num::wrapping_add_u8;
 
 // Whether a byte is a symbol of Dna3bit. These letters have no order that a few comparisons could use. But mixed with its double, or with 8A where that is larger, a
 // letter of the alphabet falls into one of three groups in which no other byte is: this was found by a search, and is computed for all 256 bytes.
 fn is_dna3bit(x: u8) -> bool
     ensures { result ≡ (coding Dna3bit).member x }
 {
-    let y = wrapping_add_u8(x, x).max(0x8A) ^ x;
+    let y = x.wrapping_add(x).max(0x8A) ^ x;
     (y & 0xDD == 0xC9) | (0xFC <= y) | (y & 0xDB == 0xD2)
 }
 
@@ -21,7 +20,7 @@ fn is_dna3bit(x: u8) -> bool
 fn is_dna_iupac(x: u8) -> bool
     ensures { result ≡ (coding DnaIupac).member x }
 {
-    let y = wrapping_add_u8(x.min(0x4B) + 0x3E, x);
+    let y = (x.min(0x4B) + 0x3E).wrapping_add(x);
     (y & 0xE5 == 0xC4) | (y & 0xDD == 0xC0) | (y & 0xF3 == 0xD3) | (y == 0xDD)
 }
 

@@ -27,7 +27,7 @@ pub fn push(x: u64, y: u64, n: usize) -> u64
 pub fn push_byte(x: u64, byte: u8) -> u64
     ensures { result ≡ x % 2 ^ 56 * 256 + byte }
 {
-    push(x, byte as u64, 8)
+    push(x, u64::from(byte), 8)
 }
 
 // The eight bits of x above its n low ones.

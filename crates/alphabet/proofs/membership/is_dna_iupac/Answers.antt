@@ -5,4 +5,4 @@ use Rattle.alphabet.proofs.membership.is_dna_iupac.Goals as goal
 pub returns : goal.returns
 returns c =
     let x : ℕ = c.args.x in
-    ap four_groups (c.wrapping_add_u8-y.ensures.value ∙ ap (λ (m : ℕ). (m + 0x3e + x) % 2 ^ 8) c.min.ensures) ∙ dna_iupac_told x (search rules)
+    ap (λ (m : ℕ). four_groups ((m + 0x3e + x) % 2 ^ 8)) c.min.ensures ∙ dna_iupac_told x (search rules)

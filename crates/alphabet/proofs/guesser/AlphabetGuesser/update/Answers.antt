@@ -20,18 +20,18 @@ returns-then-not-is_sound c =
     let w = update-whole _ g c.args.sequence.now (ap Err c.keeping.ensures ∙ sym (update_unsound g c.args.sequence.now unsound)) in
     record { value = w.0; told = w.1 }
 
-pub returns-then-acc-eq-ASCII_BIT : goal.returns-then-acc-eq-ASCII_BIT
-returns-then-acc-eq-ASCII_BIT c =
+pub returns-then-self-eq-ASCII_BIT : goal.returns-then-self-eq-ASCII_BIT
+returns-then-self-eq-ASCII_BIT c =
     let g = c.args.self in
     let text = c.args.sequence.now in
-    let same : g.acc ≡ masked g.acc (folded g.fold text) = rw c.if-acc-eq-ASCII_BIT.true (sym (masked_ascii (folded g.fold text) (folded_bytes g.fold text (λ i. (c.type_inv.sequence i).fits)))) in
+    let same : g.acc ≡ masked g.acc (folded g.fold text) = rw c.if-self-eq-ASCII_BIT.true (sym (masked_ascii (folded g.fold text) (folded_bytes g.fold text (λ i. (c.type_inv.sequence i).fits)))) in
     let w = next g text g.acc (sym c.is_sound.ensures ∙ c.if-not-is_sound.false) same in
     record { value = w.0; told = w.1 }
 
-pub scan-requires : goal.scan-requires
-scan-requires c = sound_range c.args.self (sym c.is_sound.ensures ∙ c.if-not-is_sound.false)
+pub scan-acc-requires : goal.scan-acc-requires
+scan-acc-requires c = sound_range c.args.self (sym c.is_sound.ensures ∙ c.if-not-is_sound.false)
 
 pub returns : goal.returns
 returns c =
-    let w = next c.args.self c.args.sequence.now c.scan.result (sym c.is_sound.ensures ∙ c.if-not-is_sound.false) c.scan.ensures in
+    let w = next c.args.self c.args.sequence.now c.scan-acc.result (sym c.is_sound.ensures ∙ c.if-not-is_sound.false) c.scan-acc.ensures in
     record { value = w.0; told = w.1 }
