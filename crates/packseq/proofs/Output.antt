@@ -17,10 +17,10 @@ use Rattle.alphabet.specs.Symbols.{Coding, coding}
 use Rattle.alphabet.specs.Names.{number_of, known, kind_of, numbered}
 use Rattle.alphabet.specs.Guess.{guess_of}
 use Rattle.alphabet.specs.declared.kind.AlphabetType.{AlphabetType}
+use Rattle.alphabet.specs.declared.refusal.Refusal.{Refusal}
 use Rattle.alphabet.proofs.Laws.{lawful}
 use Rattle.alphabet.proofs.Calls.{kind_number, known_number, guess-members}
-use Rattle.packing.specs.declared.first.First.{First}
-use Rattle.packing.specs.declared.sequence.Encoded.{Encoded}
+use Rattle.packing.specs.declared.stranger.Stranger.{Stranger}
 use Rattle.members.specs.Members.{bad_in}
 use Rattle.packing.specs.Encode.{packing, first_from, unless_bad, encode_at, encode_writes, encode_memory}
 use Rattle.packing.proofs.Search.{first_none}
@@ -29,45 +29,45 @@ use Rattle.lines.specs.Lines.{line, packed_lines_of, put_count, put_memory}
 use Rattle.lines.proofs.Parts.{line_length, whole_count, whole_memory}
 use Rattle.lines.proofs.Made.{refused-most, packed-most}
 use Rattle.packseq.specs.Input.{room}
-use Rattle.packseq.specs.Printed.{longest, most, packed_bytes, answered, printed, output}
-use Rattle.std.specs.Prelude.{Option, Some, IsSome, Result, Ok, Err}
+use Rattle.packseq.specs.Printed.{longest, most, answered, printed, output}
+use Rattle.std.specs.Prelude.{Option, Some, None, IsSome, Result, Ok, Err, IfOk}
 
 -- ---- what an accepted call wrote
 
 -- its count is the packing's length
 encode-count :
-    (n : ℕ) (text : List ℕ) (room count : ℕ) → encode_at n false text room ≡ Encoded.Wrote count → length (packing (numbered n) text) ≡ count
+    (n : ℕ) (text : List ℕ) (room count : ℕ) → encode_at n false text room ≡ Ok count → length (packing (numbered n) text) ≡ count
 unfolding encode_at
 encode-count n text room count e =
     packing-length (numbered n) text ∙ go (known n) (in_bounds (length text)) (leb (bytes_for (length text * (numbered n).width)) room) (first_from (numbered n) 0 text) e
   where
-    go : (a b c : Bool) (f : First) → (
-        ask a else Encoded.Refused (by 8 []) then
-        ask b else Encoded.Refused (by 2 []) then
-        ask c else Encoded.Refused (by 4 []) then
-        unless_bad f (λ position byte. Encoded.Refused (by 5 (position ∷ byte ∷ bad_in (numbered n) text ∷ [])))
-        (Encoded.Wrote (bytes_for (length text * (numbered n).width)))) ≡ Encoded.Wrote count
+    go : (a b c : Bool) (f : Option Stranger) → (
+        ask a else Err (by 8 []) then
+        ask b else Err (by 2 []) then
+        ask c else Err (by 4 []) then
+        unless_bad f (λ position byte. Err (by 5 (position ∷ byte ∷ bad_in (numbered n) text ∷ [])))
+        (Ok (bytes_for (length text * (numbered n).width)))) ≡ Ok count
         → bytes_for (length text * (numbered n).width) ≡ count
-    go true true true First.Nothing q = cc
-    go true true true (First.At position byte) q = let z : ◌≡◌ {A = ℕ} 0 1 = cc in absurd (omega arith)
-    go true true false f q = let z : ◌≡◌ {A = ℕ} 0 1 = cc in absurd (omega arith)
-    go true false c f q = let z : ◌≡◌ {A = ℕ} 0 1 = cc in absurd (omega arith)
-    go false b c f q = let z : ◌≡◌ {A = ℕ} 0 1 = cc in absurd (omega arith)
+    go true true true None q = cc
+    go true true true (Some first) q = cc
+    go true true false f q = cc
+    go true false c f q = cc
+    go false b c f q = cc
 
 -- a call on the guessed alphabet
-module _ (text memory out : List ℕ) (kind : AlphabetType) (n : ℕ) (answer : Encoded)
+module _ (text memory out : List ℕ) (kind : AlphabetType) (n : ℕ) (answer : Result ℕ Refusal)
     (k : kind ≡ guess_of false text) (m : n ≡ number_of kind) (a : answer ≡ encode_at n false text (length memory)) (o : out ≡ encode_memory n false text memory) where
   -- the number is that of the guess
   same_coding : numbered n ≡ coding (guess_of false text)
   same_coding = ap coding (ap kind_of m ∙ kind_number kind ∙ k)
 
-  module _ (count : ℕ) (w : answer ≡ Encoded.Wrote count) where
+  module _ (count : ℕ) (w : answer ≡ Ok count) where
     counted : length (packing (numbered n) text) ≡ count
     counted = encode-count n text (length memory) count (sym a ∙ w)
 
     written : out ≡ packing (numbered n) text ++ drop (length (packing (numbered n) text)) memory
     unfolding encode_memory encode_writes
-    written = o ∙ ap (λ (x : Encoded). front (encode_writes n false text x) memory) (sym a ∙ w)
+    written = o ∙ ap (λ (x : Result ℕ Refusal). front (encode_writes n false text x) memory) (sym a ∙ w)
 
     count_within : count ≤ length out
     count_within =
@@ -81,13 +81,12 @@ module _ (text memory out : List ℕ) (kind : AlphabetType) (n : ℕ) (answer : 
         ∙ sym (take_all count (packing (numbered n) text) (omega (arith, counted)))
         ∙ ap (λ (c : Coding). take count (packing c text)) same_coding
 
-  pub packed_within : packed_bytes answer ≤ length out
-  unfolding packed_bytes
+  pub packed_within : IfOk answer (λ n. n ≤ length out)
   packed_within = go answer refl
     where
-      go : (x : Encoded) → answer ≡ x → packed_bytes x ≤ length out
-      go (Encoded.Wrote count) w = count_within count w
-      go (Encoded.Refused q) w = omega arith
+      go : (x : Result ℕ Refusal) → answer ≡ x → IfOk x (λ n. n ≤ length out)
+      go (Ok count) w = count_within count w
+      go (Err q) w = tt
 
   -- what is printed for the answer
   pub is_answered : length text ≤ longest → length memory ≡ longest → answered kind (length text) answer out ≡ printed text
@@ -100,18 +99,18 @@ module _ (text memory out : List ℕ) (kind : AlphabetType) (n : ℕ) (answer : 
       by_answer : printed text ≡ answered (guess_of false text) (length text) answer packed
       by_answer =
           rw (le-leb (length text) longest short)
-          (ap (λ (x : Encoded). answered (guess_of false text) (length text) x packed)
+          (ap (λ (x : Result ℕ Refusal). answered (guess_of false text) (length text) x packed)
           (ap (λ (x : AlphabetType). encode_at (number_of x) false text longest) (sym k)
           ∙ ap (λ (x : ℕ). encode_at x false text longest) (sym m)
           ∙ ap (encode_at n false text) (sym room)
           ∙ sym a))
 
-      go : (x : Encoded) → answer ≡ x → answered kind (length text) answer out ≡ answered (guess_of false text) (length text) answer packed
-      go (Encoded.Wrote count) w =
+      go : (x : Result ℕ Refusal) → answer ≡ x → answered kind (length text) answer out ≡ answered (guess_of false text) (length text) answer packed
+      go (Ok count) w =
           rw w
           (ap (λ (x : AlphabetType). packed_lines_of x (length text) (take count out)) k
           ∙ ap (packed_lines_of (guess_of false text) (length text)) (packed_part count w))
-      go (Encoded.Refused q) w = rw w
+      go (Err q) w = rw w
 
 -- a text that is too long
 pub is_long : (text : List ℕ) → longest < length text → line (bytes_of "too long") ≡ printed text
@@ -133,12 +132,12 @@ printed_fits text = go (leb (length text) longest) refl (encode_at (number_of (g
     packed = packing (coding (guess_of false text)) text
 
     go :
-        (b : Bool) → leb (length text) longest ≡ b → (e : Encoded)
+        (b : Bool) → leb (length text) longest ≡ b → (e : Result ℕ Refusal)
         → length (ask b else line (bytes_of "too long") then answered (guess_of false text) (length text) e packed) ≤ most
-    go true h (Encoded.Wrote count) =
+    go true h (Ok count) =
         let short = packed_short (guess_of false text) text (leb-true (length text) longest h) in
         omega (arith, packed-most (guess_of false text) (length text) (take count packed), length-take count packed, short)
-    go true h (Encoded.Refused q) = omega (arith, refused-most q)
+    go true h (Err q) = omega (arith, refused-most q)
     go false h e = omega (arith, line_length (bytes_of "too long"))
 
 -- lines that fit are put whole
@@ -179,7 +178,7 @@ three-lines text bytes h =
     let k : AlphabetType = guess_of false text in
     let packed : List ℕ = packing (coding k) text in
     let same : numbered (number_of k) ≡ coding k = ap coding (kind_number k) in
-    let none : first_from (coding k) 0 text ≡ First.Nothing = first_none (coding k) 0 text (guess-members false text bytes) in
+    let none : first_from (coding k) 0 text ≡ None = first_none (coding k) 0 text (guess-members false text bytes) in
     let count : ℕ = bytes_for (length text * (coding k).width) in
     let long : length packed ≡ count = packing-length (coding k) text in
     let fits : leb count longest ≡ true = le-leb count longest (omega (arith, long, packed_short k text h)) in

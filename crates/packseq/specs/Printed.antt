@@ -6,7 +6,7 @@ use Rattle.alphabet.specs.Symbols.{coding}
 use Rattle.alphabet.specs.Names.{number_of}
 use Rattle.alphabet.specs.Guess.{guess_of}
 use Rattle.alphabet.specs.declared.kind.AlphabetType.{AlphabetType}
-use Rattle.packing.specs.declared.sequence.Encoded.{Encoded}
+use Rattle.alphabet.specs.declared.refusal.Refusal.{Refusal}
 use Rattle.packing.specs.Encode.{packing, encode_at}
 use Rattle.lines.specs.Lines.{line, packed_lines_of, refused_line_of}
 
@@ -18,15 +18,10 @@ longest = 16384
 abbrev pub most : ℕ
 most = 32798
 
--- the bytes that packing wrote
-unfoldable pub packed_bytes : Encoded → ℕ
-packed_bytes (Encoded.Wrote n) = n
-packed_bytes (Encoded.Refused refusal) = 0
-
 -- the lines for what packing answered, with the packed bytes at the front of memory: the three of a packing, or the refusal
-unfoldable pub answered : AlphabetType → ℕ → Encoded → List ℕ → List ℕ
-answered kind count (Encoded.Wrote n) packed = packed_lines_of kind count (take n packed)
-answered kind count (Encoded.Refused refusal) packed = refused_line_of refusal
+unfoldable pub answered : AlphabetType → ℕ → Result ℕ Refusal → List ℕ → List ℕ
+answered kind count (Ok n) packed = packed_lines_of kind count (take n packed)
+answered kind count (Err refusal) packed = refused_line_of refusal
 
 -- the whole output for a text: it is guessed and packed, both without folding, or it is too long
 unfoldable pub printed : List ℕ → List ℕ

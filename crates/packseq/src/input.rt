@@ -10,6 +10,7 @@ pub fn read_input<R: Read>(reader: &mut R, buf: &mut [u8]) -> io::Result<usize>
     ensures within { IfOk result (λ len. len ≤ room) }
     ensures whole { IfOk result (λ len. IfSome (R.remaining reader.old) (λ text. take len buf.new ≡ take room text)) }
 {
+    // by hand: `read_to_end` reads into a Vec, whose memory can run out
     let mut len = 0;
     while len < buf.len() {
         let more = reader.read(&mut buf[len..])?;

@@ -2,31 +2,30 @@
 ghost use Rattle.std.specs.Prelude.{◌≡◌, ◌≤◌, length, IfOk};
 ghost use Rattle.bits.specs.Memory.{front};
 ghost use Rattle.lines.specs.Lines.{put_count, put_memory};
-ghost use Rattle.packseq.specs.Printed.{most, packed_bytes, answered, printed, output};
+ghost use Rattle.packseq.specs.Printed.{most, answered, printed, output};
 
-use alphabet::AlphabetType;
-use coder::Encoded;
+use alphabet::{AlphabetType, Refusal};
 use std::io;
 
 // The most bytes that are packed.
 const LONGEST: usize = 16384;
 
 // Puts the lines for what packing answered, having put the packed bytes at the front of `packed`.
-#[tactic(auto, unfolding(crate::specs::Printed::answered, crate::specs::Printed::packed_bytes))]
+#[tactic(auto, unfolding(crate::specs::Printed::answered))]
 fn put_answer(
     kind: AlphabetType,
     count: u64,
-    answer: Encoded,
+    answer: Result<usize, Refusal>,
     packed: &[u8],
     out: &mut [u8],
 ) -> Option<usize>
-    requires { packed_bytes answer ≤ length packed.now }
+    requires { IfOk answer (λ n. n ≤ length packed.now) }
     ensures value { result ≡ put_count (answered kind count answer packed.now) (length out.old) }
     ensures memory { out.new ≡ put_memory (answered kind count answer packed.now) out.old }
 {
     match answer {
-        Encoded::Wrote(n) => lines::packed_lines(kind, count, &packed[..n], out),
-        Encoded::Refused(refusal) => lines::refused_line(refusal, out),
+        Ok(n) => lines::packed_lines(kind, count, &packed[..n], out),
+        Err(refusal) => lines::refused_line(refusal, out),
     }
 }
 
@@ -43,7 +42,8 @@ fn put_printed(text: &[u8], out: &mut [u8]) -> usize
     // without folding: a text with lowercase letters is Ascii to this program
     let kind = alphabet::guess_alphabet(false, text);
     let mut packed = [0; LONGEST];
-    let answer = coder::encode_sequence(kind.number(), false, text, &mut packed);
+    let answer = coder::encode_sequence(u64::from(kind), false, text, &mut packed);
+    // `as`: there is no `u64::from` of a usize
     put_answer(kind, text.len() as u64, answer, &packed, out).unwrap()
 }
 

@@ -1,12 +1,11 @@
 -- Codes that an alphabet's own list lacks: what `first_lacking_of` says of a window, how far bases may be passed, and eleven codes at once.
-use Rattle.std.proofs.Common.{◌≡◌, ℕ, zero, suc, ◌+◌, ◌-◌, ◌*◌, ◌/◌, ◌%◌, ◌^◌, ◌<◌, ◌≤◌, Bool, true, false, cond, leb, List, []}
+use Rattle.std.proofs.Common.{◌≡◌, ℕ, zero, suc, ◌+◌, ◌-◌, ◌*◌, ◌/◌, ◌%◌, ◌^◌, ◌<◌, ◌≤◌, Bool, true, false, leb, List, []}
 use Rattle.std.proofs.Common.{◌∷◌, ◌++◌, map, length, sym, refl, ap, ◌∙◌, subst, lt_of_lt_of_le, add-zero, mul-le-mul_right, add-mul, suc-add, zero-add, zero-mul}
 use Rattle.std.proofs.Common.{arith, pow_mono, shr-shr, le-ltb, lt-ltb, le-leb, leb-true}
+use Rattle.std.specs.Prelude.{Option, None, Some}
 use native.Mathlib.Decide.{dec_lt}
-use borrow.Author.Tests.{lt-leb}
 use Rattle.bits.specs.Tables.{tabulate, at}
 use Rattle.bits.specs.Streams.{bit_at, word, cut}
-use Rattle.bits.specs.Memory.{put_at}
 use Rattle.bits.specs.Packing.{pack, file_byte, codes_from, first_byte, end_byte}
 use Rattle.bits.proofs.Computed.{both_true}
 use Rattle.bits.proofs.Tabulated.{length-tabulate, tabulate_ext, tabulate-add, get_d_tabulate}
@@ -17,8 +16,8 @@ use Rattle.alphabet.specs.Symbols.{Coding, coding}
 use Rattle.alphabet.specs.declared.kind.AlphabetType.{AlphabetType}
 use Rattle.alphabet.specs.declared.kind.AlphabetType.TheVariants.{Protein}
 use Rattle.alphabet.proofs.Laws.{Lawful, widths, every_assigned, protein-assigned}
-use Rattle.windows.specs.Window.{window, covers, assigned_front, first_lacking_of, all_assigned}
-use Rattle.windows.specs.Workers.{Near, Lent, Passes, first_looked, looked_memory}
+use Rattle.windows.specs.Window.{covers, assigned_front, first_lacking_of, all_assigned}
+use Rattle.windows.specs.Workers.{Near, Covered, Passes, FirstLacking}
 use Rattle.windows.proofs.Windows.{codes_of_text}
 
 -- ---- a list of codes
@@ -213,7 +212,7 @@ others_assigned k other lent offset start end = go (dec_lt start end)
 -- ---- Protein's codes, five bits each
 
 -- a covered window's bytes are lent, and so are those of the rest of it
-pub covered-lent : {lent : List ℕ} {offset start end : ℕ} → Near start end → covers (coding Protein) lent offset start end ≡ true → Lent lent offset start end
+pub covered-lent : {lent : List ℕ} {offset start end : ℕ} → Near start end → covers (coding Protein) lent offset start end ≡ true → Covered lent offset start end
 unfolding covers
 covered-lent {lent} {offset} {start} {end} near all =
     let b : ℕ = (coding Protein).width in
@@ -224,7 +223,7 @@ covered-lent {lent} {offset} {start} {end} near all =
       ends = subst (λ (w : ℕ). end_byte w end ≤ offset + length lent) widths.of_protein (leb-true (end_byte b end) (offset + length lent) range.1);
     }
 
-pub rest_lent : {lent : List ℕ} {offset start end i : ℕ} → Lent lent offset start end → start ≤ i → i ≤ end → Lent lent offset i end
+pub rest_lent : {lent : List ℕ} {offset start end i : ℕ} → Covered lent offset start end → start ≤ i → i ≤ end → Covered lent offset i end
 rest_lent l from to = record { near = record { order = to; far = l.near.far }; begins = omega (arith, l.begins); ends = l.ends }
 
 module _ (lent : List ℕ) (offset : ℕ) where
@@ -272,39 +271,9 @@ module _ (lent : List ℕ) (offset : ℕ) where
         ∙ ap (λ (k : ℕ). word bits k 5) here in
         protein_has (i + t) (rw (← code, ← field) (small u (omega arith)))
 
--- ---- a window that is looked at, or not, and written where no such base was found
+-- ---- the first such base, behind bases that are passed
 
-module _ (look : Bool) (A : Coding) (lent : List ℕ) (offset start count : ℕ) (memory : List ℕ) (first : ℕ)
-    (found : first ≡ first_looked look A lent offset start (start + count)) where
-  by_first : (t : Bool) → leb (start + count) first ≡ t → looked_memory look A lent offset start count memory ≡ cond t (put_at 0 (window A lent offset start count) memory) memory
-  by_first t e = ap (λ (x : Bool). cond x (put_at 0 (window A lent offset start count) memory) memory) (ap (leb (start + count)) (sym found) ∙ e)
-
-  pub looked_kept : first < start + count → looked_memory look A lent offset start count memory ≡ memory
-  looked_kept h = by_first false (lt-leb (start + count) first h)
-
-  pub looked_put : start + count ≤ first → looked_memory look A lent offset start count memory ≡ put_at 0 (window A lent offset start count) memory
-  looked_put h = by_first true (le-leb (start + count) first h)
-
--- where nothing is looked at, it is written
-pub unlooked : (A : Coding) (lent : List ℕ) (offset start count : ℕ) (memory : List ℕ)
-    → looked_memory false A lent offset start count memory ≡ put_at 0 (window A lent offset start count) memory
-unlooked A lent offset start count memory = looked_put false A lent offset start count memory (start + count) refl (omega arith)
-
--- nor is there such a base in another alphabet than Protein
-pub looked_others : (look : Bool) (k : AlphabetType) → (k ≡ Protein → ⊥) → (lent : List ℕ) (offset start end : ℕ) → start ≤ end
-    → end ≡ first_looked look (coding k) lent offset start end
-looked_others true k other lent offset start end h = sym (lacking_none (coding k) lent offset (others_pass k other lent offset start end h))
-looked_others false k other lent offset start end h = refl
-
--- by an engine of such an alphabet all is written
-module _ (look : Bool) (k kind : AlphabetType) (lent : List ℕ) (offset start count : ℕ) (memory out : List ℕ) where
-  pub written-whole : kind ≡ k → (k ≡ Protein → ⊥) → out ≡ put_at 0 (window (coding k) lent offset start count) memory
-      → (start + count ≡ first_looked look (coding kind) lent offset start (start + count)) × (out ≡ looked_memory look (coding kind) lent offset start count memory)
-  written-whole is other put =
-      let end : ℕ = start + count in
-      let found : end ≡ first_looked look (coding kind) lent offset start end = looked_others look kind (λ e. other (sym is ∙ e)) lent offset start end (omega arith) in (
-        found,
-        put
-            ∙ ap (λ (x : AlphabetType). put_at 0 (window (coding x) lent offset start count) memory) (sym is)
-            ∙ sym (looked_put look (coding kind) lent offset start count memory end found (omega arith)),
-      )
+pub first_past : (A : Coding) (lent : List ℕ) (offset start at end : ℕ) (r : Option ℕ) → Passes A lent offset start at end → FirstLacking A lent offset at end r
+    → FirstLacking A lent offset start end r
+first_past A lent offset start at end None p e = lacking_past A lent offset p ∙ e
+first_past A lent offset start at end (Some i) p e = (e.0 ∙ sym (lacking_past A lent offset p), e.1)

@@ -1,5 +1,6 @@
 -- Reads of a packed text, whatever the choice to fold by which it was packed: for a window within the text every question is answered yes, and the symbols stand
 -- at the front of memory afterwards.
+use Rattle.std.specs.Prelude.{Ok}
 use Rattle.std.proofs.Common.{◌≡◌, ℕ, ◌+◌, ◌-◌, ◌*◌, ◌<◌, ◌≤◌, Bool, true, ◌&&◌, List, map, length, take, drop, ap, mul-le-mul_right}
 use Rattle.std.proofs.Common.{mul-le-mul_left, arith, lt-ltb, le-leb}
 use Rattle.bits.specs.Tables.{at}
@@ -10,7 +11,6 @@ use Rattle.alphabet.specs.Questions.{limit, in_bounds}
 use Rattle.alphabet.specs.Symbols.{Coding}
 use Rattle.alphabet.specs.Names.{known, kind_of, numbered, numbered_by}
 use Rattle.alphabet.proofs.Laws.{lawful}
-use Rattle.windows.specs.declared.read.Read.{Read}
 use Rattle.windows.specs.Window.{window, covers, first_lacking_of, all_assigned, read_at, lent_at, covered_at, read_writes, read_memory, covered_memory}
 use Rattle.windows.specs.Workers.{Passes}
 use Rattle.windows.proofs.Windows.{window_of_text}
@@ -47,7 +47,7 @@ module _ (fold : Bool) (alphabet : ℕ) (text lent : List ℕ) (offset s e : ℕ
         rw (end-near, first-near)
 
     -- a zero-filling read
-    pub read_told : read_at alphabet offset s e (length memory) ≡ Read.Bases (e - s)
+    pub read_told : read_at alphabet offset s e (length memory) ≡ Ok (e - s)
     unfolding read_at
     read_told = rw (lt-ltb s e serves.some, named, near, le-leb (e - s) (length memory) room)
 
@@ -70,7 +70,7 @@ module _ (fold : Bool) (alphabet : ℕ) (text lent : List ℕ) (offset s e : ℕ
       pub never_lacking : all_assigned (numbered alphabet) lent offset s e ≡ true
       never_lacking = le-leb e (first_lacking_of (numbered alphabet) lent offset s e) (omega (arith, lacking_none (numbered alphabet) lent offset passes))
 
-      pub covered_told : covered_at alphabet lent offset s e (length memory) ≡ Read.Bases (e - s)
+      pub covered_told : covered_at alphabet lent offset s e (length memory) ≡ Ok (e - s)
       unfolding covered_at lent_at covers
       covered_told = rw (lt-ltb s e serves.some, named, near, covering, le-leb (e - s) (length memory) room, never_lacking)
 

@@ -1,8 +1,8 @@
-pub mod Choices
 pub mod Windows
-pub mod Assigned
 pub mod Turns
+pub mod Written
 pub mod WholeBytes
 pub mod AllBytes
+pub mod Assigned
 pub mod Answering
 pub mod Given

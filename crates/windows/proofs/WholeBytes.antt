@@ -1,27 +1,42 @@
 -- Windows that are read by whole bytes: blocks of codes over any width, and plain bytes.
-use Rattle.std.proofs.Common.{◌≡◌, ℕ, suc, ◌+◌, ◌-◌, ◌*◌, ◌/◌, ◌%◌, ◌^◌, ◌<◌, ◌≤◌, min, false, List, [], ◌∷◌, map, length, set}
-use Rattle.std.proofs.Common.{replicate, sym, refl, ap, ◌∙◌, ap₂, ⊎_elim, le_of_eq, lt_of_lt_of_le, add-zero, add_assoc, mul-le-mul_right, mod-lt, mod-eq_of_lt}
-use Rattle.std.proofs.Common.{mul_assoc, suc-mul, add-mul, one-mul, div-add-mod', zero-add, zero-mul, div-mul-le_self, mul-div_cancel, arith, length-set, pow_mono}
+use Rattle.std.proofs.Common.{◌≡◌, ℕ, suc, ◌+◌, ◌-◌, ◌*◌, ◌/◌, ◌%◌, ◌^◌, ◌<◌, ◌≤◌, min, false, List, ◌++◌, map, length, take, drop, replicate}
+use Rattle.std.proofs.Common.{sym, ap, ◌∙◌, ap₂, ⊎_elim, lt_of_lt_of_le, add-zero, zero-add, mod-lt, mod-eq_of_lt}
+use Rattle.std.proofs.Common.{mul_assoc, suc-mul, add-mul, div-add-mod', mul-div_cancel, arith, pow_mono, length-drop, length-take-le, get_or-drop, get_or-take}
 use native.Mathlib.Nat.{mod_self}
 use native.Mathlib.Decide.{dec_lt}
 use lib.ListN.{length-map}
+use lib.Seq.{ext_get_or}
 use Rattle.bits.specs.Tables.{tabulate, at, Bytes}
 use Rattle.bits.specs.Streams.{bit_at, word, fields}
 use Rattle.bits.specs.Packing.{file_byte, codes_from}
-use Rattle.bits.specs.Memory.{put_at}
-use Rattle.bits.proofs.Tabulated.{length-tabulate, tabulate_ext, get_d_tabulate, is_tabulate, replicate-tabulate, map-tabulate}
-use Rattle.bits.proofs.Words.{word_lt, bit_lt}
+use Rattle.bits.proofs.Tabulated.{length-tabulate, tabulate_ext, tabulate-add, get_d_tabulate, is_tabulate, replicate-tabulate, map-tabulate}
+use Rattle.bits.proofs.Words.{word_ext, word_lt, bit_lt}
 use Rattle.bits.proofs.Shifts.{push_byte_is, code_lt}
-use Rattle.bits.proofs.Put.{Filled, none_filled, more_filled, put_none, put_one, put_put}
 use Rattle.bits.proofs.Blocks.{block_codes, aligned_codes, cut-fields, word_byte, word_bytes, two_bytes}
 use Rattle.bits.proofs.Files.{file_before, file_lent, file_past, file_small, word-lent}
 use Rattle.alphabet.specs.Symbols.{Coding, coding}
 use Rattle.alphabet.specs.declared.kind.AlphabetType.{AlphabetType}
 use Rattle.alphabet.proofs.Laws.{Plain, shape}
 use Rattle.windows.specs.Window.{window}
-use Rattle.windows.specs.Workers.{Decodes, symbols_of, stretch, file_bytes}
+use Rattle.windows.specs.Workers.{symbols_of, file_bytes}
 use Rattle.windows.proofs.Windows.{base_at, window_bases}
-use Rattle.windows.proofs.Turns.{Written, none_written, more_written, entry}
+
+-- ---- the number that some bytes of a list write
+
+pub number_part : (xs : List ℕ) (i k n v : ℕ) → k ≡ n → i + n ≤ length xs
+    → v ≡ word (bit_at 8 (at (take k (drop i xs)))) 0 (length (take k (drop i xs)) * 8) → v ≡ word (bit_at 8 (at xs)) (i * 8) (n * 8)
+unfolding bit_at
+number_part xs i k n v same room e =
+    let part : List ℕ = take n (drop i xs) in
+    let len : length part ≡ n = length-take-le n (drop i xs) (omega (arith, length-drop i xs)) in
+    e
+    ∙ ap (λ (m : ℕ). word (bit_at 8 (at (take m (drop i xs)))) 0 (length (take m (drop i xs)) * 8)) same
+    ∙ ap (λ (m : ℕ). word (bit_at 8 (at part)) 0 (m * 8)) len
+    ∙ word_ext (bit_at 8 (at part)) (bit_at 8 (at xs)) 0 (i * 8) (n * 8)
+    (λ t l.
+    let place : i + (0 + t) / 8 ≡ (i * 8 + t) / 8 = omega arith in
+    let rest : (0 + t) % 8 ≡ (i * 8 + t) % 8 = omega arith in
+    ap₂ (λ (x y : ℕ). x / 2 ^ (8 - 1 - y) % 2) (get_or-take n (drop i xs) ((0 + t) / 8) 0 (omega arith) ∙ get_or-drop i xs ((0 + t) / 8) 0 ∙ ap (at xs) place) rest)
 
 -- ---- blocks: c bases that fill n bytes
 
@@ -96,26 +111,19 @@ module _ (A : Coding) (lent : List ℕ) (offset c i j k : ℕ) (bytes : Bytes le
       window_across A lent offset c i j skip (at lent k) (at lent (k + next)) bytes whole begins h itself (bytes (k + next))
       (λ l. ap (λ (m : ℕ). at lent (k + m)) (one l) ∙ of_file 1)
 
--- blocks written one after another: none yet, and one more
-pub no_blocks : (A : Coding) (lent : List ℕ) (offset from start c : ℕ) (memory : List ℕ) → Written A lent offset from start (0 * c) memory memory
-no_blocks A lent offset from start c memory =
-    none_written A lent offset from start memory ∙ ap (λ (n : ℕ). put_at from (window A lent offset start n) memory) (sym (zero-mul c))
-
-pub block_more : (A : Coding) (lent : List ℕ) (offset c from start n : ℕ) (memory out xs : List ℕ) → Written A lent offset from start (n * c) memory out
-    → from + n * c + c ≤ length memory → xs ≡ window A lent offset (start + n * c) c
-    → Written A lent offset from start ((n + 1) * c) memory (put_at (from + n * c) xs out)
-block_more A lent offset c from start n memory out xs done room e =
-    let up : n * c + c ≡ (n + 1) * c = sym (add-mul n 1 c ∙ ap (λ (x : ℕ). n * c + x) (one-mul c)) in
-    more_written A lent offset from start (n * c) memory out done c xs room e
-    ∙ ap (λ (m : ℕ). put_at from (window A lent offset start m) memory) up
-
 -- bytes pushed one after another (`push_byte`) write the number that they write; up to eight of them nothing falls out
-pub pushed : (byte : ℕ → ℕ) → ((j : ℕ) → byte j < 256) → (j n x : ℕ) → n < 8 → x ≡ word (bit_at 8 byte) (j * 8) (n * 8)
-    → x % 2 ^ 56 * 256 + byte (j + n) ≡ word (bit_at 8 byte) (j * 8) (n * 8 + 8)
-pushed byte small j n x h e =
+pub pushed : (byte : ℕ → ℕ) → ((j : ℕ) → byte j < 256) → (n x y : ℕ) → n < 8 → x ≡ word (bit_at 8 byte) 0 (n * 8) → y ≡ x % 2 ^ 56 * 256 + byte n
+    → y ≡ word (bit_at 8 byte) 0 ((n + 1) * 8)
+pushed byte small n x y h e more =
     let most : n * 8 ≤ 56 = omega arith in
-    let fit : word (bit_at 8 byte) (j * 8) (n * 8) < 2 ^ 56 = lt_of_lt_of_le (word_lt (bit_at 8 byte) (bit_lt 8 byte) (j * 8) (n * 8)) (pow_mono most) in
-    push_byte_is x (byte (j + n)) (rw e fit) ∙ ap (λ (y : ℕ). y * 256 + byte (j + n)) e ∙ sym (word_bytes byte small j n)
+    let next : n * 8 + 8 ≡ (n + 1) * 8 = omega arith in
+    let fit : word (bit_at 8 byte) 0 (n * 8) < 2 ^ 56 = lt_of_lt_of_le (word_lt (bit_at 8 byte) (bit_lt 8 byte) 0 (n * 8)) (pow_mono most) in
+    more
+    ∙ push_byte_is x (byte n) (rw e fit)
+    ∙ ap (λ (y : ℕ). y * 256 + byte n) e
+    ∙ ap (λ (k : ℕ). word (bit_at 8 byte) 0 (n * 8) * 256 + byte k) (sym (zero-add n))
+    ∙ sym (word_bytes byte small 0 n)
+    ∙ ap (word (bit_at 8 byte) 0) next
 
 -- ---- the symbols of a block, from the table
 
@@ -123,68 +131,48 @@ pub length_symbols : (A : Coding) (c v : ℕ) → length (symbols_of A c v) ≡ 
 unfolding symbols_of fields
 length_symbols A c v = simp (length-map, length-tabulate)
 
--- the entries at the c fields of a number
-pub entries : (A : Coding) (table : List ℕ) (b c v : ℕ) → Decodes A table → A.width ≡ b → map (at table) (fields b c v) ≡ symbols_of A c v
+-- the entries at the fields of a number
+pub entry_fields : (table : List ℕ) (b c v : ℕ) → map (at table) (fields b c v) ≡ tabulate c (λ t. at table (v / 2 ^ ((c - 1 - t) * b) % 2 ^ b))
+unfolding fields
+entry_fields table b c v = map-tabulate (at table) (λ t. v / 2 ^ ((c - 1 - t) * b) % 2 ^ b) c
+
+pub entries : (A : Coding) (table : List ℕ) (b c v : ℕ) → A.width ≤ 5 → table ≡ tabulate 32 A.symbol → A.width ≡ b → map (at table) (fields b c v) ≡ symbols_of A c v
 unfolding symbols_of fields
-entries A table b c v decodes width =
+entries A table b c v narrow laid width =
     let f : ℕ → ℕ = λ t. v / 2 ^ ((c - 1 - t) * b) % 2 ^ b in
-    let five : b ≤ 5 = omega (arith, decodes.five) in
+    let five : b ≤ 5 = omega (arith, narrow) in
     map-tabulate (at table) f c
-    ∙ tabulate_ext c (λ t. at table (f t)) (λ t. A.symbol (f t)) (λ t h. entry A table (f t) decodes (code_lt (v / 2 ^ ((c - 1 - t) * b)) b five))
+    ∙ tabulate_ext c (λ t. at table (f t)) (λ t. A.symbol (f t))
+    (λ t h.
+    let small : f t < 32 = code_lt (v / 2 ^ ((c - 1 - t) * b)) b five in
+    ap (λ (l : List ℕ). at l (f t)) laid ∙ get_d_tabulate 32 A.symbol (f t) 0 small)
     ∙ sym (map-tabulate A.symbol f c)
     ∙ ap (λ (w : ℕ). map A.symbol (fields w c v)) (sym width)
 
--- ---- stores in a row: at place k, at k + 1, and so on
+-- block m of those that begin with base `start`, from the number that its bytes and the next one write
+pub block_written : (A : Coding) (lent : List ℕ) (offset start c n b m k from v : ℕ) (table : List ℕ) → c * A.width ≡ n * 8 → A.width ≤ 5 → table ≡ tabulate 32 A.symbol → b ≡ A.width
+    → offset ≤ start * b / 8 → from ≡ start * b / 8 - offset + m * n → k ≡ n + 1 → from + (n + 1) ≤ length lent
+    → v ≡ word (bit_at 8 (at (take k (drop from lent)))) 0 (length (take k (drop from lent)) * 8)
+    → map (at table) (fields b c (v / 2 ^ (8 - start * b % 8))) ≡ window A lent offset (start + m * c) c
+block_written A lent offset start c n b m k from v table whole narrow laid width lends place same room e =
+    let bit : ℕ = start * b in
+    let first : ℕ = bit / 8 in
+    let skip : ℕ = bit % 8 in
+    let begins : start * A.width ≡ first * 8 + skip = ap (λ (x : ℕ). start * x) (sym width) ∙ omega arith in
+    let number : v ≡ word (bit_at 8 (at lent)) ((first + m * n - offset) * 8) ((n + 1) * 8) =
+    number_part lent from k (n + 1) v same room e ∙ ap (λ (x : ℕ). word (bit_at 8 (at lent)) (x * 8) ((n + 1) * 8)) (omega arith) in
+    entries A table b c (v / 2 ^ (8 - skip)) narrow laid (sym width)
+    ∙ block_of_lent A lent offset c n whole (start + m * c) (first + m * n) skip v (next_block A lent offset c n whole start first skip m begins) (omega arith) (omega arith) number
 
-unfoldable pub stores-from : List ℕ → ℕ → ℕ → List ℕ → List ℕ
-stores-from out k i [] = out
-stores-from out k i (x ∷ xs) = stores-from (set out (k + i) x) k (i + 1) xs
+-- ---- where whole blocks of g bases begin
 
-unfoldable pub stores : List ℕ → ℕ → List ℕ → List ℕ
-stores out k [] = out
-stores out k (x ∷ xs) = stores-from (set out k x) k 1 xs
-
-one_more : (out : List ℕ) (k x : ℕ) (xs : List ℕ) → k + 1 + length xs ≤ length out → put_at (k + 1) xs (set out k x) ≡ put_at k (x ∷ xs) out
-one_more out k x xs h = ap (put_at (k + 1) xs) (put_one k x out (omega arith)) ∙ put_put k (x ∷ []) out (omega arith) xs
-
-stored_from : (xs out : List ℕ) (k i : ℕ) → k + i + length xs ≤ length out → stores-from out k i xs ≡ put_at (k + i) xs out
-unfolding stores-from
-stored_from [] out k i h = sym (put_none (k + i) out)
-stored_from (x ∷ xs) out k i h =
-    stored_from xs (set out (k + i) x) k (i + 1) (simp length-set (omega arith))
-    ∙ ap (λ (j : ℕ). put_at j xs (set out (k + i) x)) (sym (add_assoc k i 1))
-    ∙ one_more out (k + i) x xs (omega arith)
-
-pub stored : (xs out : List ℕ) (k : ℕ) → k + length xs ≤ length out → stores out k xs ≡ put_at k xs out
-unfolding stores
-stored [] out k h = sym (put_none k out)
-stored (x ∷ xs) out k h = stored_from xs (set out k x) k 1 (simp length-set (omega arith)) ∙ one_more out k x xs (omega arith)
-
--- the entries of a list of c numbers
-pub list_stored : (xs out : List ℕ) (c k : ℕ) → length xs ≡ c → k + c ≤ length out → stores out k (tabulate c (at xs)) ≡ put_at k xs out
-list_stored xs out c k e h =
-    ap (λ (l : List ℕ). stores out k l) (sym (is_tabulate c (at xs) 0 xs e (λ i l. refl)))
-    ∙ stored xs out k (omega arith)
-
--- ---- where blocks of g bases begin and end: a head up to a multiple of g, and r whole blocks behind it
-
-pub head_fits : (x count head : ℕ) → head ≡ min x count → head ≤ count
-head_fits x count head e = omega arith
-
-module _ (g start count head r : ℕ) (some : 0 < g) (e : head ≡ min ((g - start % g) % g) count) (few : r ≤ (count - head) / g) where
-  pub blocks_fit : head + r * g ≤ count
-  blocks_fit =
-      omega (arith, head_fits ((g - start % g) % g) count head e, mul-le-mul_right {m = r} {n = (count - head) / g} g few, div-mul-le_self (count - head) g)
-
-  -- g bases fit behind the head, so it reaches a multiple of g
-  pub aligned : 0 < r * g → (start + head) / g * g ≡ start + head
-  aligned l = go (dec_lt 0 (start % g))
+module _ (g start count head : ℕ) (some : 0 < g) (e : head ≡ min ((g - start % g) % g) count) where
+  -- bases are left behind the head, so it reaches a multiple of g
+  pub aligned : head < count → (start + head) / g * g ≡ start + head
+  aligned inner = go (dec_lt 0 (start % g))
     where
       parts : start / g * g + start % g ≡ start
       parts = div-add-mod' start g
-
-      inner : head < count
-      inner = omega (arith, blocks_fit)
 
       go : Dec (0 < start % g) → (start + head) / g * g ≡ start + head
       go (yes h) =
@@ -211,74 +199,37 @@ window-plain A plain lent bytes offset start n =
     ∙ ap (λ (w : ℕ). word s ((start + i) * w) w) plain.eight
     ∙ word_byte (file_byte lent offset) (λ k. file_small lent offset k bytes) (start + i))
 
--- where bytes are left after the zeros, these end with the last byte before the lent ones
-reach : (offset start count before : ℕ) → before ≡ min (offset - start) count → before < count → offset ≤ start + before
-reach offset start count before e h = omega arith
+-- such a window is in three parts: zeros before the lent bytes, some of these, zeros behind them
+plain_parts : (lent : List ℕ) (offset start n before first m rest : ℕ) → before ≡ min (offset - start) n → first ≡ min (start + before - offset) (length lent)
+    → m ≡ min (length lent - first) (n - before) → rest ≡ n - before - m
+    → replicate before 0 ++ (take m (drop first lent) ++ replicate rest 0) ≡ file_bytes lent offset start n
+unfolding file_bytes
+plain_parts lent offset start n before first m rest eb ef em er =
+    let f : ℕ → ℕ = λ i. file_byte lent offset (start + i) in
+    let whole : before + (m + rest) ≡ n = omega arith in
+    let zeros : replicate before 0 ≡ tabulate before f =
+    replicate-tabulate before 0 ∙ tabulate_ext before (λ i. 0) f (λ i h. sym (file_before lent offset (start + i) (omega arith))) in
+    let some : take m (drop first lent) ≡ tabulate m (λ i. f (before + i)) =
+    is_tabulate m (λ i. f (before + i)) 0 (take m (drop first lent)) (length-take-le m (drop first lent) (omega (arith, length-drop first lent)))
+    (λ i h.
+    let place : first + i ≡ start + (before + i) - offset = omega arith in
+    get_or-take m (drop first lent) i 0 h ∙ get_or-drop first lent i 0 ∙ ap (at lent) place ∙ sym (file_lent lent offset (start + (before + i)) (omega arith))) in
+    let past : replicate rest 0 ≡ tabulate rest (λ i. f (before + (m + i))) =
+    replicate-tabulate rest 0 ∙ tabulate_ext rest (λ i. 0) (λ i. f (before + (m + i))) (λ i h. sym (file_past lent offset (start + (before + (m + i))) (omega arith))) in
+    ap₂ (λ (x y : List ℕ). x ++ y) zeros (ap₂ (λ (x y : List ℕ). x ++ y) some past ∙ sym (tabulate-add m rest (λ i. f (before + i))))
+    ∙ sym (tabulate-add before (m + rest) f)
+    ∙ ap (λ (k : ℕ). tabulate k f) whole
 
--- where a lent byte is copied
-inside : (x count before m i : ℕ) → m ≡ min x (count - before) → i < m → before < count
-inside x count before m i e h = omega arith
-
-onward : (offset start before i : ℕ) → offset ≤ start + before → offset ≤ start + (before + i)
-onward offset start before i h = omega arith
-
-moved : (offset start before first i : ℕ) → offset ≤ start + before → first ≡ start + before - offset → start + (before + i) - offset ≡ first + i
-moved offset start before first i h e = omega arith
-
--- where bytes are left after the copy, it ended with the last lent one
-outside : (x count before m i : ℕ) → m ≡ min x (count - before) → i < count - before - m → (before < count) × (m ≡ x)
-outside x count before m i e h = (omega arith, omega arith)
-
-past : (offset start before first m len i : ℕ) → offset ≤ start + before → first ≡ start + before - offset → m ≡ len - first → offset + len ≤ start + (before + m + i)
-past offset start before first m len i h e f = omega arith
-
--- the three parts are the whole
-sums : (x y count before m : ℕ) → before ≡ min x count → m ≡ min y (count - before) → (before ≤ count) × ((before + m ≤ count) × (before + m + (count - before - m) ≡ count))
-sums x y count before m e f = (omega arith, (omega arith, omega arith))
-
-early : (offset start count before i : ℕ) → before ≡ min (offset - start) count → i < before → start + i < offset
-early offset start count before i e h = omega arith
-
--- such a window is written in three parts: zeros before the lent bytes, some of these, zeros behind them
-module _ (lent : List ℕ) (offset start count : ℕ) (memory : List ℕ) (room : count ≤ length memory) where
-  abbrev f : ℕ → ℕ
-  f i = file_byte lent offset (start + i)
-
-  zero_part : (k n : ℕ) → ((i : ℕ) → i < n → f (k + i) ≡ 0) → replicate n 0 ≡ tabulate n (λ i. f (k + i))
-  zero_part k n h = replicate-tabulate n 0 ∙ tabulate_ext n (λ i. 0) (λ i. f (k + i)) (λ i l. sym (h i l))
-
-  more_part : (n m : ℕ) (out xs : List ℕ) → n + m ≤ count → Filled f 0 memory n out → xs ≡ tabulate m (λ i. f (n + i)) → Filled f 0 memory (n + m) (put_at n xs out)
-  more_part n m out xs h done e = ap (λ (k : ℕ). put_at k xs out) (sym (zero-add n)) ∙ more_filled f 0 memory n out done m xs (omega arith) e
-
-  pub three_parts : (before first m : ℕ) (out₁ out₂ out₃ : List ℕ)
-      → before ≡ min (offset - start) count → first ≡ start + before - offset → m ≡ min (length lent - first) (count - before)
-      → out₁ ≡ put_at 0 (replicate before 0) memory
-      → out₂ ≡ put_at before (stretch lent first m) out₁
-      → out₃ ≡ put_at (before + m) (replicate (count - before - m) 0) out₂
-      → out₃ ≡ put_at 0 (file_bytes lent offset start count) memory
-  unfolding file_bytes stretch
-  three_parts before first m out₁ out₂ out₃ eb ef em e₁ e₂ e₃ =
-      let all = sums (offset - start) (length lent - first) count before m eb em in
-      let rest : ℕ = count - before - m in
-      let d₁ : Filled f 0 memory before out₁ =
-      e₁
-      ∙ more_part 0 before memory (replicate before 0) (rw (zero-add before) all.0) (none_filled f 0 memory)
-      (zero_part 0 before (λ i l. ap f (zero-add i) ∙ file_before lent offset (start + i) (early offset start count before i eb l)))
-      ∙ ap (λ (n : ℕ). put_at 0 (tabulate n f) memory) (zero-add before) in
-      let d₂ : Filled f 0 memory (before + m) out₂ =
-      e₂
-      ∙ more_part before m out₁ (stretch lent first m) all.1.0 d₁
-      (tabulate_ext m (λ i. at lent (first + i)) (λ i. f (before + i))
-      (λ i l.
-      let from : offset ≤ start + before = reach offset start count before eb (inside (length lent - first) count before m i em l) in
-      sym (file_lent lent offset (start + (before + i)) (onward offset start before i from) ∙ ap (at lent) (moved offset start before first i from ef)))) in
-      e₃
-      ∙ more_part (before + m) rest out₂ (replicate rest 0) (le_of_eq all.1.1) d₂
-      (zero_part (before + m) rest
-      (λ i l.
-      let out : (before < count) × (m ≡ length lent - first) = outside (length lent - first) count before m i em l in
-      file_past lent offset (start + (before + m + i)) (past offset start before first m (length lent) i (reach offset start count before eb out.0) ef out.1)))
-      ∙ ap (λ (n : ℕ). put_at 0 (tabulate n f) memory) all.1.1
+-- memory in three parts, of which the second is copied
+pub parts_written : (lent : List ℕ) (offset start n before first m a b : ℕ) (xs ys zs : List ℕ) → before ≡ min (offset - start) n → first ≡ min (start + before - offset) (length lent)
+    → m ≡ min (length lent - first) (n - before) → a ≡ before → length ys ≡ m → b ≡ n - before - m
+    → xs ≡ replicate a 0 → ((i : ℕ) → i < m → at ys i ≡ at lent (first + i)) → zs ≡ replicate b 0 → xs ++ (ys ++ zs) ≡ file_bytes lent offset start n
+parts_written lent offset start n before first m a b xs ys zs eb ef em ea len er ex each ez =
+    let part : List ℕ = take m (drop first lent) in
+    let whole : length part ≡ m = length-take-le m (drop first lent) (omega (arith, length-drop first lent)) in
+    let copy : ys ≡ part =
+    ext_get_or 0 ys part (len ∙ sym whole) (λ i h. each i (rw len at h) ∙ sym (get_or-take m (drop first lent) i 0 (rw len at h) ∙ get_or-drop first lent i 0)) in
+    ap₂ (λ (x y : List ℕ). x ++ y) (ex ∙ ap (λ (i : ℕ). replicate i 0) ea) (ap₂ (λ (x y : List ℕ). x ++ y) copy ez) ∙ plain_parts lent offset start n before first m b eb ef em er
 
 -- ---- the two shapes of alphabets, by their width
 
@@ -287,14 +238,3 @@ plain_of k e = ⊎_elim (λ p. absurd (omega (arith, p.five))) (λ p. p) (shape 
 
 pub five_of : (k : AlphabetType) → ((coding k).width ≡ 8 → ⊥) → (coding k).width ≤ 5
 five_of k e = ⊎_elim (λ p. p.five) (λ p. absurd (e p.eight)) (shape false k)
-
--- ---- what an engine wrote, as a window of the kind that was asked for
-
-pub of_kind : (engine kind : AlphabetType) (lent : List ℕ) (offset start n : ℕ) (memory out : List ℕ) → kind ≡ engine
-    → out ≡ put_at 0 (window (coding engine) lent offset start n) memory → out ≡ put_at 0 (window (coding kind) lent offset start n) memory
-of_kind engine kind lent offset start n memory out e w = w ∙ ap (λ (k : AlphabetType). put_at 0 (window (coding k) lent offset start n) memory) (sym e)
-
-pub of_plain : (kind : AlphabetType) (lent : List ℕ) (offset start n : ℕ) (memory out : List ℕ) → Bytes lent → (coding kind).width ≡ 8
-    → out ≡ put_at 0 (file_bytes lent offset start n) memory → out ≡ put_at 0 (window (coding kind) lent offset start n) memory
-of_plain kind lent offset start n memory out bytes e w =
-    w ∙ ap (λ (xs : List ℕ). put_at 0 xs memory) (sym (window-plain (coding kind) (plain_of kind e) lent bytes offset start n))

@@ -1,13 +1,13 @@
 -- Windows. States document 01, "Middle: windows", questions 1, 5, 6 and 9 for reads, and request A7 for the covered read.
 -- Every zero-filling read is `read_at` and `read_memory`: `decode_rolling` and `decode_substring_from_bytes_at_offset` as they stand, `decode_2bit`, `decode_3bit`,
 -- `decode_4bit` and `decode_5bit` with their own alphabet's number, `decode_substring_from_bytes` with offset 0, `decode_string_from_bytes` with offset and start 0.
-use Rattle.std.specs.Prelude.{ℕ, suc, ◌+◌, ◌-◌, Bool, cond, ◌&&◌, leb, List, [], ◌∷◌, map, length, nat_le, nat_lt}
+use Rattle.std.specs.Prelude.{ℕ, suc, ◌+◌, ◌-◌, Bool, cond, ◌&&◌, leb, List, [], ◌∷◌, map, length, nat_le, nat_lt, Result, Ok, Err}
 use Rattle.bits.specs.Packing.{codes_from, first_byte, end_byte}
 use Rattle.bits.specs.Memory.{front}
+use Rattle.alphabet.specs.declared.refusal.Refusal.{Refusal}
 use Rattle.alphabet.specs.Questions.{ask◌else◌then◌, by, in_bounds}
 use Rattle.alphabet.specs.Symbols.{Coding}
 use Rattle.alphabet.specs.Names.{known, numbered}
-use Rattle.windows.specs.declared.read.Read.{Read}
 
 -- n symbols from symbol `start` on, of a file of which the bytes from `offset` on are lent: each is the symbol of its own b bits
 unfoldable pub window : Coding → List ℕ → ℕ → ℕ → ℕ → List ℕ
@@ -33,43 +33,43 @@ all_assigned A lent offset start end = nat_le end (first_lacking_of A lent offse
 -- ---- a zero-filling read
 
 -- an empty window is answered at once; else asked: alphabet number, end and offset, memory for the bases
-unfoldable pub read_at : ℕ → ℕ → ℕ → ℕ → ℕ → Read
+unfoldable pub read_at : ℕ → ℕ → ℕ → ℕ → ℕ → Result ℕ Refusal
 read_at alphabet offset start end room =
-    ask nat_lt start end else Read.Bases 0 then
-    ask known alphabet else Read.Refused (by 8 []) then
-    ask in_bounds end && in_bounds offset else Read.Refused (by 2 []) then
-    ask leb (end - start) room else Read.Refused (by 4 []) then
-    Read.Bases (end - start)
+    ask nat_lt start end else Ok 0 then
+    ask known alphabet else Err (by 8 []) then
+    ask in_bounds end && in_bounds offset else Err (by 2 []) then
+    ask leb (end - start) room else Err (by 4 []) then
+    Ok (end - start)
 
 -- ---- the covered read
 
 -- the same, and before the memory every byte of the window's range; codes are not asked about yet
-unfoldable pub lent_at : ℕ → List ℕ → ℕ → ℕ → ℕ → ℕ → Read
+unfoldable pub lent_at : ℕ → List ℕ → ℕ → ℕ → ℕ → ℕ → Result ℕ Refusal
 lent_at alphabet lent offset start end room =
-    ask nat_lt start end else Read.Bases 0 then
-    ask known alphabet else Read.Refused (by 8 []) then
-    ask in_bounds end && in_bounds offset else Read.Refused (by 2 []) then
-    ask covers (numbered alphabet) lent offset start end else Read.Refused (by 3 []) then
-    ask leb (end - start) room else Read.Refused (by 4 []) then
-    Read.Bases (end - start)
+    ask nat_lt start end else Ok 0 then
+    ask known alphabet else Err (by 8 []) then
+    ask in_bounds end && in_bounds offset else Err (by 2 []) then
+    ask covers (numbered alphabet) lent offset start end else Err (by 3 []) then
+    ask leb (end - start) room else Err (by 4 []) then
+    Ok (end - start)
 
 -- a window that is accepted so far is asked for its bases' codes; an empty one has none
-abbrev pub looked_at : Coding → List ℕ → ℕ → ℕ → ℕ → Read → Read
-looked_at A lent offset start end (Read.Refused q) = Read.Refused q
-looked_at A lent offset start end (Read.Bases n) =
-    ask all_assigned A lent offset start end else Read.Refused (by 18 (first_lacking_of A lent offset start end ∷ [])) then
-    Read.Bases n
+abbrev pub looked_at : Coding → List ℕ → ℕ → ℕ → ℕ → Result ℕ Refusal → Result ℕ Refusal
+looked_at A lent offset start end (Err q) = Err q
+looked_at A lent offset start end (Ok n) =
+    ask all_assigned A lent offset start end else Err (by 18 (first_lacking_of A lent offset start end ∷ [])) then
+    Ok n
 
 -- the covered read: the codes last
-unfoldable pub covered_at : ℕ → List ℕ → ℕ → ℕ → ℕ → ℕ → Read
+unfoldable pub covered_at : ℕ → List ℕ → ℕ → ℕ → ℕ → ℕ → Result ℕ Refusal
 covered_at alphabet lent offset start end room = looked_at (numbered alphabet) lent offset start end (lent_at alphabet lent offset start end room)
 
 -- ---- memory
 
 -- what an answer of either writes: its bases
-unfoldable pub read_writes : ℕ → List ℕ → ℕ → ℕ → Read → List ℕ
-read_writes alphabet lent offset start (Read.Bases count) = window (numbered alphabet) lent offset start count
-read_writes alphabet lent offset start (Read.Refused q) = []
+unfoldable pub read_writes : ℕ → List ℕ → ℕ → ℕ → Result ℕ Refusal → List ℕ
+read_writes alphabet lent offset start (Ok count) = window (numbered alphabet) lent offset start count
+read_writes alphabet lent offset start (Err q) = []
 
 -- the output memory afterwards, of a zero-filling and of a covered read
 unfoldable pub read_memory : ℕ → List ℕ → ℕ → ℕ → ℕ → List ℕ → List ℕ

@@ -3,8 +3,8 @@ ghost use Rattle.std.specs.Prelude.{◌≡◌};
 ghost use Rattle.alphabet.specs.Names.{kind_of};
 ghost use Rattle.windows.specs.Window.{read_at, lent_at};
 
-use crate::read::Read;
-use alphabet::{AlphabetType, Named, Refusal, kind_of_number};
+use crate::lent::Lent;
+use alphabet::{AlphabetType, Refusal};
 use bits::LIMIT;
 
 // The largest number that names an alphabet.
@@ -14,62 +14,61 @@ const LAST_ALPHABET: u64 = 5;
 pub fn kind_of(alphabet: u64) -> AlphabetType
     ensures { result ≡ kind_of alphabet }
 {
-    match kind_of_number(alphabet) {
-        Named::Kind(kind) => kind,
-        Named::Refused(_) => AlphabetType::Unknown,
-    }
+    AlphabetType::try_from(alphabet).unwrap_or(AlphabetType::Unknown)
 }
 
 // The answer of a zero-filling read with `room` bytes of output memory.
-pub fn asked(alphabet: u64, offset: usize, start: usize, end: usize, room: usize) -> Read
+pub fn asked(
+    alphabet: u64,
+    offset: usize,
+    start: usize,
+    end: usize,
+    room: usize,
+) -> Result<usize, Refusal>
     ensures { result ≡ read_at alphabet offset start end room }
 {
     if end <= start {
-        return Read::Bases(0);
+        return Ok(0);
     }
     if LAST_ALPHABET < alphabet {
-        return Read::Refused(Refusal::NoAlphabet);
+        return Err(Refusal::NoAlphabet);
     }
     if LIMIT < end {
-        return Read::Refused(Refusal::TooFar);
+        return Err(Refusal::TooFar);
     }
     if LIMIT < offset {
-        return Read::Refused(Refusal::TooFar);
+        return Err(Refusal::TooFar);
     }
     if room < end - start {
-        return Read::Refused(Refusal::ShortMemory);
+        return Err(Refusal::ShortMemory);
     }
-    Read::Bases(end - start)
+    Ok(end - start)
 }
 
 // The answer of a covered read before its codes are looked at: what a zero-filling one asks, memory aside, and question 6 before the memory. Memory of `end` bytes
 // is never too short.
 pub fn asked_covered(
     alphabet: u64,
-    bytes: &[u8],
-    offset: usize,
+    lent: &Lent<'_>,
     start: usize,
     end: usize,
     room: usize,
-) -> Read
-    ensures { result ≡ lent_at alphabet bytes.now offset start end room }
+) -> Result<usize, Refusal>
+    ensures { result ≡ lent_at alphabet lent.now.bytes.now lent.now.offset start end room }
 {
-    let plain = asked(alphabet, offset, start, end, end);
-    let Read::Bases(count) = plain else {
-        return plain;
-    };
+    let count = asked(alphabet, lent.offset, start, end, end)?;
     if count == 0 {
-        return plain;
+        return Ok(0);
     }
     let b = kind_of(alphabet).bits_per_symbol();
-    if start * b / 8 < offset {
-        return Read::Refused(Refusal::Uncovered);
+    if start * b / 8 < lent.offset {
+        return Err(Refusal::Uncovered);
     }
-    if bytes.len() < (end * b + 7) / 8 - offset {
-        return Read::Refused(Refusal::Uncovered);
+    if lent.bytes.len() < (end * b + 7) / 8 - lent.offset {
+        return Err(Refusal::Uncovered);
     }
     if room < count {
-        return Read::Refused(Refusal::ShortMemory);
+        return Err(Refusal::ShortMemory);
     }
-    plain
+    Ok(count)
 }

@@ -1,178 +1,145 @@
 // Dna3bit, DnaIupac and Protein: blocks of bases, each as many as fill whole bytes. A block may begin anywhere in a byte, and so is read from its bytes and the next
-// one: where it begins goes into a shift alone, since a branch by it is one that the processor cannot foresee. The functions are over any width; called with an
-// alphabet's name and with numbers, each is compiled for these.
-ghost use Rattle.std.specs.Prelude.{◌≡◌, ◌+◌, ◌*◌, ◌<◌, ◌≤◌, map, length};
+// one: where it begins goes into a shift alone, since a branch by it is one that the processor cannot foresee.
+ghost use Rattle.std.specs.Prelude.{◌≡◌, ◌+◌, ◌-◌, ◌*◌, ◌/◌, ◌^◌, ◌<◌, ◌≤◌, map, length};
 ghost use Rattle.bits.specs.Tables.{at};
 ghost use Rattle.bits.specs.Streams.{bit_at, word, fields};
-ghost use Rattle.bits.specs.Memory.{put_at};
+ghost use Rattle.bits.specs.Memory.{front};
 ghost use Rattle.alphabet.specs.Symbols.{coding};
 ghost use Rattle.alphabet.specs.declared.kind.AlphabetType.TheVariants.{Dna3bit, DnaIupac, Protein};
 ghost use Rattle.windows.specs.Window.{window};
-ghost use Rattle.windows.specs.Workers.{Fits, Fills, Decodes};
+ghost use Rattle.windows.specs.Workers.{Fills};
 
-use crate::rolling::code_at;
-use alphabet::{AlphabetType, decoding_array};
-use bits::{beyond, field, least, push_byte};
+use crate::engine::Engine;
+use crate::lent::Lent;
+use alphabet::{AlphabetType, DecodingTable};
+use bits::{field, push_byte};
 
-// The number that the n bytes from byte i on write, at most eight; the search for codes without a symbol takes it too.
-pub fn number(bytes: &[u8], i: usize, n: usize) -> u64
-    requires { (n ≤ 8) × (i + n ≤ length bytes.now) }
-    ensures { result ≡ word (bit_at 8 (at bytes.now)) (i * 8) (n * 8) }
+// The number that at most eight bytes write; the search for codes without a symbol takes it too.
+pub fn number(bytes: &[u8]) -> u64
+    requires { length bytes.now ≤ 8 }
+    ensures { result ≡ word (bit_at 8 (at bytes.now)) 0 (length bytes.now * 8) }
 {
     let mut all: u64 = 0;
-    for j in 0..n {
-        all = push_byte(all, bytes[i + j]);
+    for byte in bytes {
+        all = push_byte(all, *byte);
     }
     all
 }
 
-// The table's entries at the c codes, b bits wide, that the low bits of a number write, from place k on.
-fn spread(table: &[u8; 32], b: usize, c: usize, w: u64, out: &mut [u8], k: usize)
-    requires { ((b ≤ 5) × (c * b < 64)) × (k + c ≤ length out.old) }
-    ensures { out.new ≡ put_at k (map (at table.now) (fields b c w)) out.old }
+// The table's entries at the codes, b bits wide, that the low bits of a number write.
+fn spread(table: &[u8; 32], b: usize, w: u64, out: &mut [u8])
+    requires { (b ≤ 5) × (length out.old * b < 64) }
+    ensures { out.new ≡ map (at table.now) (fields b (length out.old) w) }
 {
-    for t in 0..c {
-        out[k + t] = table[field(w, (c - 1 - t) * b, b)];
+    let c = out.len();
+    for (t, base) in out.iter_mut().enumerate() {
+        *base = table[field(w, (c - 1 - t) * b, b)];
     }
 }
 
-// Blocks of c bases, n bytes each, from base `start` on, at most `most`, while the bytes of a block and the next one are lent. The answer is how many were written,
-// from place `from` on.
-fn blocks(
-    kind: AlphabetType,
-    table: &[u8; 32],
-    c: usize,
-    n: usize,
-    bytes: &[u8],
-    offset: usize,
-    start: usize,
-    most: usize,
-    out: &mut [u8],
-    from: usize,
-) -> usize
-    requires { (Decodes (coding kind) table.now × Fills (coding kind) c n) × Fits start (most * c) from (length out.old) }
-    ensures { (result ≤ most) × (out.new ≡ put_at from (window (coding kind) bytes.now offset start (result * c)) out.old) }
+// How many blocks of n bytes are lent from byte i of the lent ones on, each with the next byte.
+fn lent_blocks(lent: &Lent<'_>, i: usize, n: usize) -> usize
+    requires { (i < 2 ^ 63) × (0 < n) }
+    ensures { result ≡ (length lent.now.bytes.now - (i + 1)) / n }
 {
-    let b = kind.bits_per_symbol();
-    let bit = start * b;
-    let first = bit / 8;
-    if first < offset {
+    lent.bytes.len().saturating_sub(i + 1) / n
+}
+
+// Blocks of C bases, N bytes each, from base `start` on, while memory is left for one, and the bytes of a block and the next one are lent. The answer is how many bases
+// were written. The sizes are constants at each call, so that the compiler makes a loop for each.
+fn blocks<const C: usize, const N: usize>(
+    table: &DecodingTable,
+    lent: &Lent<'_>,
+    start: usize,
+    out: &mut [u8],
+) -> usize
+    requires { Fills (coding table.now.kind) C N × (start + length out.old ≤ 2 ^ 60) }
+    ensures { (result ≤ length out.old) × (out.new ≡ front (window (coding table.now.kind) lent.now.bytes.now lent.now.offset start result) out.old) }
+{
+    // Asked for first, so that the shortest windows pay for nothing else.
+    if out.len() < C {
         return 0;
     }
-    let i = first - offset;
-    let count = least(beyond(bytes.len(), i + 1) / n, most);
-    let mut m: usize = 0;
-    while m < count {
-        let w = number(bytes, i + m * n, n + 1);
-        spread(table, b, c, w >> (8 - bit % 8), out, from + m * c);
-        m += 1;
+    let b = table.kind.bits_per_symbol();
+    let bit = start * b;
+    let first = bit / 8;
+    if first < lent.offset {
+        return 0;
     }
-    count
+    let i = first - lent.offset;
+    let count = lent_blocks(lent, i, N).min(out.len() / C);
+    for m in 0..count {
+        let from = i + m * N;
+        let w = number(&lent.bytes[from..from + N + 1]);
+        spread(
+            &table.symbols,
+            b,
+            w >> (8 - bit % 8),
+            &mut out[m * C..m * C + C],
+        );
+    }
+    count * C
 }
 
-// `count` bases from base `start` on, one at a time, written from place `from` on.
-fn singles(
-    kind: AlphabetType,
-    table: &[u8; 32],
-    bytes: &[u8],
-    offset: usize,
-    start: usize,
-    count: usize,
-    out: &mut [u8],
-    from: usize,
-)
-    requires { Decodes (coding kind) table.now × Fits start count from (length out.old) }
-    ensures { out.new ≡ put_at from (window (coding kind) bytes.now offset start count) out.old }
+// The bases from base `start` on, one at a time.
+fn singles(table: &DecodingTable, lent: &Lent<'_>, start: usize, out: &mut [u8])
+    requires { ((coding table.now.kind).width ≤ 5) × (start + length out.old ≤ 2 ^ 60) }
+    ensures { out.new ≡ window (coding table.now.kind) lent.now.bytes.now lent.now.offset start (length out.old) }
 {
-    let b = kind.bits_per_symbol();
-    let mut n: usize = 0;
-    while n < count {
-        out[from + n] = table[code_at(bytes, offset, (start + n) * b, b)];
-        n += 1;
+    let b = table.kind.bits_per_symbol();
+    for (n, base) in out.iter_mut().enumerate() {
+        *base = table.symbols[lent.code((start + n) * b, b)];
     }
 }
 
-// `count` bases of Dna3bit from base `start` on: eight from three bytes, and one at a time what is left, and where bytes are not lent.
-pub fn three_bits(bytes: &[u8], offset: usize, start: usize, count: usize, out: &mut [u8])
-    requires { Fits start count 0 (length out.old) }
-    ensures { out.new ≡ put_at 0 (window (coding Dna3bit) bytes.now offset start count) out.old }
+// Eight bases from N bytes, and one at a time what is left, and where bytes are not lent: eight codes of an alphabet fill as many bytes as each has bits.
+fn eights<const N: usize>(table: &DecodingTable, lent: &Lent<'_>, start: usize, out: &mut [u8])
+    requires { ((coding table.now.kind).width ≡ N × N ≤ 5) × (start + length out.old ≤ 2 ^ 60) }
+    ensures { out.new ≡ window (coding table.now.kind) lent.now.bytes.now lent.now.offset start (length out.old) }
 {
-    let kind = AlphabetType::Dna3bit;
-    let table = decoding_array(kind);
-    let done = blocks(kind, &table, 8, 3, bytes, offset, start, count / 8, out, 0) * 8;
-    singles(
-        kind,
-        &table,
-        bytes,
-        offset,
-        start + done,
-        count - done,
-        out,
-        done,
-    );
+    let done = blocks::<8, N>(table, lent, start, out);
+    singles(table, lent, start + done, &mut out[done..]);
 }
 
-// The same of DnaIupac: two from each byte, of seven bytes at once, and then of four.
-pub fn four_bits(bytes: &[u8], offset: usize, start: usize, count: usize, out: &mut [u8])
-    requires { Fits start count 0 (length out.old) }
-    ensures { out.new ≡ put_at 0 (window (coding DnaIupac) bytes.now offset start count) out.old }
-{
-    let kind = AlphabetType::DnaIupac;
-    let table = decoding_array(kind);
-    let wide = blocks(
-        kind,
-        &table,
-        14,
-        7,
-        bytes,
-        offset,
-        start,
-        count / 14,
-        out,
-        0,
-    ) * 14;
-    let rest = (count - wide) / 8;
-    let done = wide
-        + blocks(
-            kind,
-            &table,
-            8,
-            4,
-            bytes,
-            offset,
-            start + wide,
-            rest,
-            out,
-            wide,
-        ) * 8;
-    singles(
-        kind,
-        &table,
-        bytes,
-        offset,
-        start + done,
-        count - done,
-        out,
-        done,
-    );
+// The engine of Dna3bit: eight bases from three bytes.
+#[derive(Clone, Copy)]
+pub struct ThreeBits;
+
+impl Engine for ThreeBits {
+    ghost kind = { λ _. Dna3bit };
+
+    fn write(self, bytes: &[u8], offset: usize, start: usize, out: &mut [u8]) {
+        let lent = Lent { bytes, offset };
+        let table = DecodingTable::of(AlphabetType::Dna3bit);
+        eights::<3>(&table, &lent, start, out);
+    }
 }
 
-// The same of Protein: eight from five bytes.
-pub fn five_bits(bytes: &[u8], offset: usize, start: usize, count: usize, out: &mut [u8])
-    requires { Fits start count 0 (length out.old) }
-    ensures { out.new ≡ put_at 0 (window (coding Protein) bytes.now offset start count) out.old }
-{
-    let kind = AlphabetType::Protein;
-    let table = decoding_array(kind);
-    let done = blocks(kind, &table, 8, 5, bytes, offset, start, count / 8, out, 0) * 8;
-    singles(
-        kind,
-        &table,
-        bytes,
-        offset,
-        start + done,
-        count - done,
-        out,
-        done,
-    );
+// The engine of DnaIupac: two bases from a byte, of seven bytes at once, and then of four.
+#[derive(Clone, Copy)]
+pub struct FourBits;
+
+impl Engine for FourBits {
+    ghost kind = { λ _. DnaIupac };
+
+    fn write(self, bytes: &[u8], offset: usize, start: usize, out: &mut [u8]) {
+        let lent = Lent { bytes, offset };
+        let table = DecodingTable::of(AlphabetType::DnaIupac);
+        let done = blocks::<14, 7>(&table, &lent, start, out);
+        eights::<4>(&table, &lent, start + done, &mut out[done..]);
+    }
+}
+
+// The engine of Protein: eight bases from five bytes.
+#[derive(Clone, Copy)]
+pub struct FiveBits;
+
+impl Engine for FiveBits {
+    ghost kind = { λ _. Protein };
+
+    fn write(self, bytes: &[u8], offset: usize, start: usize, out: &mut [u8]) {
+        let lent = Lent { bytes, offset };
+        let table = DecodingTable::of(AlphabetType::Protein);
+        eights::<5>(&table, &lent, start, out);
+    }
 }

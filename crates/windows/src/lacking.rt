@@ -1,14 +1,14 @@
 // Codes that an alphabet's own list lacks. Protein has 29 symbols, so that three of the 32 codes that five bits write are no symbol's; every code of the other
 // alphabets is a symbol's. A window is looked through before any base of it is written.
-ghost use Rattle.std.specs.Prelude.{◌≡◌, ℕ, ◌+◌, ◌*◌, ◌/◌, ◌%◌, ◌^◌, ◌<◌, ◌≤◌, false};
+ghost use Rattle.std.specs.Prelude.{◌≡◌, ℕ, ◌+◌, ◌*◌, ◌/◌, ◌%◌, ◌^◌, ◌<◌, ◌≤◌, true, false, MatchOption};
 ghost use Rattle.alphabet.specs.Symbols.{coding};
 ghost use Rattle.alphabet.specs.declared.kind.AlphabetType.TheVariants.{Protein};
-ghost use Rattle.windows.specs.Window.{first_lacking_of};
-ghost use Rattle.windows.specs.Workers.{Near, Lent, Passes, Looks, first_looked};
+ghost use Rattle.windows.specs.Window.{covers, first_lacking_of};
+ghost use Rattle.windows.specs.Workers.{Near, Covered, Passes, FirstLacking};
 
 use crate::blocks::number;
-use crate::rolling::code_at;
-use bits::beyond;
+use crate::lent::Lent;
+use alphabet::AlphabetType;
 
 // Protein's bits per symbol.
 const WIDTH: usize = 5;
@@ -41,28 +41,27 @@ fn lacks(codes: u64, n: usize) -> bool
 // Passes bases from `start` on whose codes are symbols', eight at a time, while more than eleven are left, so that eight bytes are. Eight codes fill five bytes, so
 // that each eight begins at the same bit of its byte; the three codes behind them are looked at too, and once more with the next eight. The answer is the first base
 // that was not passed; how far it goes is free.
-fn pass_many(bytes: &[u8], offset: usize, start: usize, end: usize) -> usize
-    requires { Lent bytes.now offset start end }
-    ensures { Passes (coding Protein) bytes.now offset start result end }
+fn pass_many(lent: &Lent<'_>, start: usize, end: usize) -> usize
+    requires { Covered lent.now.bytes.now lent.now.offset start end }
+    ensures { Passes (coding Protein) lent.now.bytes.now lent.now.offset start result end }
 {
     let bit = start * WIDTH;
-    let first = bit / 8 - offset;
+    let first = bit / 8 - lent.offset;
     let above = 7 - bit % 8;
-    let most = beyond(end - start, 4) / 8;
-    let mut n: usize = 0;
-    while n < most {
-        if lacks(number(bytes, first + n * WIDTH, 8) >> 2, above) {
+    let most = (end - start).saturating_sub(4) / 8;
+    for n in 0..most {
+        let from = first + n * WIDTH;
+        if lacks(number(&lent.bytes[from..from + 8]) >> 2, above) {
             return start + n * 8;
         }
-        n += 1;
     }
-    start + n * 8
+    start + most * 8
 }
 
 // The same for the rest, all at once; where more than eleven bases are left, or few, none is passed.
-fn pass_rest(bytes: &[u8], offset: usize, start: usize, end: usize) -> usize
-    requires { Lent bytes.now offset start end }
-    ensures { Passes (coding Protein) bytes.now offset start result end }
+fn pass_rest(lent: &Lent<'_>, start: usize, end: usize) -> usize
+    requires { Covered lent.now.bytes.now lent.now.offset start end }
+    ensures { Passes (coding Protein) lent.now.bytes.now lent.now.offset start result end }
 {
     if end - start < FEW {
         return start;
@@ -72,47 +71,37 @@ fn pass_rest(bytes: &[u8], offset: usize, start: usize, end: usize) -> usize
     }
     let first = start * WIDTH / 8;
     let last = (end * WIDTH + 7) / 8;
-    if lacks(
-        number(bytes, first - offset, last - first) >> (last * 8 - end * WIDTH),
-        0,
-    ) {
+    let all = number(&lent.bytes[first - lent.offset..last - lent.offset]);
+    if lacks(all >> (last * 8 - end * WIDTH), 0) {
         return start;
     }
     end
 }
 
-// The first base from `start` on whose code is no symbol's, looked for one at a time; `end` where there is none.
-fn first_alone(bytes: &[u8], offset: usize, start: usize, end: usize) -> usize
+// The first base from `start` on whose code is no symbol's, looked for one at a time.
+fn first_alone(lent: &Lent<'_>, start: usize, end: usize) -> Option<usize>
     requires { Near start end }
-    ensures { result ≡ first_lacking_of (coding Protein) bytes.now offset start end }
+    ensures { FirstLacking (coding Protein) lent.now.bytes.now lent.now.offset start end result }
 {
-    let mut i = start;
-    while i < end {
-        if LACKING <= code_at(bytes, offset, i * WIDTH, WIDTH) {
-            return i;
+    for i in start..end {
+        if LACKING <= lent.code(i * WIDTH, WIDTH) {
+            return Some(i);
         }
-        i += 1;
     }
-    end
+    None
 }
 
-// The first base of a covered window of Protein whose code is no symbol's; `end` where there is none.
-fn first_in_protein(bytes: &[u8], offset: usize, start: usize, end: usize) -> usize
-    requires { Lent bytes.now offset start end }
-    ensures { result ≡ first_lacking_of (coding Protein) bytes.now offset start end }
+// The first base of a covered window whose code is no symbol's, which only Protein has.
+pub fn first_lacking(kind: AlphabetType, lent: &Lent<'_>, start: usize, end: usize) -> Option<usize>
+    requires { Near start end × (covers (coding kind) lent.now.bytes.now lent.now.offset start end ≡ true) }
+    ensures { FirstLacking (coding kind) lent.now.bytes.now lent.now.offset start end result }
 {
-    let many = pass_many(bytes, offset, start, end);
-    let rest = pass_rest(bytes, offset, many, end);
-    first_alone(bytes, offset, rest, end)
-}
-
-// The same where it is looked for at all; else `end`.
-pub fn first_lacking(look: bool, bytes: &[u8], offset: usize, start: usize, end: usize) -> usize
-    requires { Near start end × Looks look (coding Protein) bytes.now offset start end }
-    ensures { result ≡ first_looked look (coding Protein) bytes.now offset start end }
-{
-    if look {
-        return first_in_protein(bytes, offset, start, end);
+    match kind {
+        AlphabetType::Protein => {
+            let many = pass_many(lent, start, end);
+            let rest = pass_rest(lent, many, end);
+            first_alone(lent, rest, end)
+        }
+        _ => None,
     }
-    end
 }

@@ -3,13 +3,15 @@
 
 mod asked;
 mod blocks;
+mod engine;
 mod fours;
 mod lacking;
+mod lent;
 mod plain;
 mod read;
 mod rolling;
 
 pub use read::{
-    Read, decode_2bit, decode_3bit, decode_4bit, decode_5bit, decode_covered, decode_rolling,
+    decode_2bit, decode_3bit, decode_4bit, decode_5bit, decode_covered, decode_rolling,
     decode_string_from_bytes, decode_substring_from_bytes, decode_substring_from_bytes_at_offset,
 };

@@ -1,188 +1,86 @@
 // The reads of a window. All but the covered read take any byte that is not lent for zero, and all that read one alphabet give one answer; the covered read gives
 // it, or refuses.
-ghost use Rattle.std.specs.Prelude.{◌≡◌, ◌+◌, length};
-ghost use Rattle.bits.specs.Memory.{front, put_at};
+ghost use Rattle.std.specs.Prelude.{◌≡◌, ◌+◌, ◌^◌, ◌≤◌, length};
 ghost use Rattle.alphabet.specs.Symbols.{coding};
-ghost use Rattle.windows.specs.Window.{window, read_at, read_writes, read_memory, covered_at, covered_memory};
 ghost use Rattle.alphabet.specs.Names.{kind_of};
-ghost use Rattle.windows.specs.Workers.{Fits, InBlocks, Looks, first_looked, looked_memory, Passed, Suits};
+ghost use Rattle.windows.specs.Window.{read_at, read_memory, covered_at, covered_memory};
 
 use crate::asked::{asked, asked_covered, kind_of};
-use crate::blocks::{five_bits, four_bits, three_bits};
-use crate::fours::two_bits;
+use crate::blocks::{FiveBits, FourBits, ThreeBits};
+use crate::engine::Engine;
+use crate::fours::TwoBits;
 use crate::lacking::first_lacking;
+use crate::lent::Lent;
 use crate::plain::copy_file;
 use crate::rolling::roll;
-use alphabet::{AlphabetType, Refusal, decoding_array};
+use alphabet::{AlphabetType, DecodingTable, Refusal};
 
-// What every read of a window answers: the bases written.
+// The engine of any kind: the rolling accumulator; plain bytes are copied.
 #[derive(Clone, Copy)]
-pub enum Read {
-    Bases(usize),
-    Refused(Refusal),
-}
-
-// Which engine writes: an alphabet's own, the fours of Dna2bit, the blocks of Dna3bit, DnaIupac and Protein, or the rolling one, which takes any alphabet.
-#[derive(Clone, Copy)]
-enum Engine {
-    Own,
-    Fours,
-    Blocks,
-    Any,
-}
-
-// `count` bases from base `start` on, by the rolling accumulator; plain bytes are copied.
-fn rolled(
+struct Rolling {
     kind: AlphabetType,
-    bytes: &[u8],
-    offset: usize,
-    start: usize,
-    count: usize,
-    out: &mut [u8],
-)
-    requires { Fits start count 0 (length out.old) }
-    ensures { out.new ≡ put_at 0 (window (coding kind) bytes.now offset start count) out.old }
-{
-    if kind.bits_per_symbol() == 8 {
-        copy_file(bytes, offset, start, count, out);
-        return;
+}
+
+impl Engine for Rolling {
+    ghost kind = { λ it. it.kind };
+
+    fn write(self, bytes: &[u8], offset: usize, start: usize, out: &mut [u8]) {
+        let lent = Lent { bytes, offset };
+        if self.kind.bits_per_symbol() == 8 {
+            copy_file(&lent, start, out);
+            return;
+        }
+        roll(&DecodingTable::of(self.kind), &lent, start, out);
     }
-    let table = decoding_array(kind);
-    roll(kind, &table, bytes, offset, start, count, out, 0);
 }
 
-// The same by the blocks of Dna3bit, DnaIupac or Protein, unless `look` is asked for and the code of a base is no symbol's, which only Protein has. The answer is the
-// first such base, or the window's end. All three stand in this function, which hands no slice on, so that none has to be copied.
-fn looked(
+// A kind's own engine.
+#[derive(Clone, Copy)]
+struct Own {
     kind: AlphabetType,
-    look: bool,
-    bytes: &[u8],
-    offset: usize,
-    start: usize,
-    count: usize,
-    out: &mut [u8],
-) -> usize
-    requires { (Fits start count 0 (length out.old) × InBlocks kind) × Looks look (coding kind) bytes.now offset start (start + count) }
-    ensures value { result ≡ first_looked look (coding kind) bytes.now offset start (start + count) }
-    ensures out_after { out.new ≡ looked_memory look (coding kind) bytes.now offset start count out.old }
-{
-    let end = start + count;
-    match kind {
-        AlphabetType::Dna3bit => {
-            three_bits(bytes, offset, start, count, out);
-            end
-        }
-        AlphabetType::DnaIupac => {
-            four_bits(bytes, offset, start, count, out);
-            end
-        }
-        _ => {
-            let first = first_lacking(look, bytes, offset, start, end);
-            if first < end {
-                return first;
+}
+
+impl Engine for Own {
+    ghost kind = { λ it. it.kind };
+
+    #[inline(always)]
+    fn write(self, bytes: &[u8], offset: usize, start: usize, out: &mut [u8]) {
+        match self.kind {
+            AlphabetType::Dna2bit => TwoBits.write(bytes, offset, start, out),
+            AlphabetType::Dna3bit => ThreeBits.write(bytes, offset, start, out),
+            AlphabetType::DnaIupac => FourBits.write(bytes, offset, start, out),
+            AlphabetType::Protein => FiveBits.write(bytes, offset, start, out),
+            AlphabetType::Ascii | AlphabetType::Unknown => {
+                Rolling { kind: self.kind }.write(bytes, offset, start, out)
             }
-            five_bits(bytes, offset, start, count, out);
-            first
         }
     }
 }
 
-// The same by the kind's own engine; of the other alphabets every code is a symbol's.
-fn own(
-    kind: AlphabetType,
-    look: bool,
-    bytes: &[u8],
-    offset: usize,
-    start: usize,
-    count: usize,
-    out: &mut [u8],
-) -> usize
-    requires { Fits start count 0 (length out.old) × Looks look (coding kind) bytes.now offset start (start + count) }
-    ensures value { result ≡ first_looked look (coding kind) bytes.now offset start (start + count) }
-    ensures out_after { out.new ≡ looked_memory look (coding kind) bytes.now offset start count out.old }
-{
-    match kind {
-        AlphabetType::Dna2bit => {
-            two_bits(bytes, offset, start, count, out);
-            start + count
-        }
-        AlphabetType::Ascii | AlphabetType::Unknown => {
-            rolled(kind, bytes, offset, start, count, out);
-            start + count
-        }
-        _ => looked(kind, look, bytes, offset, start, count, out),
-    }
-}
-
-// `count` bases from base `start` on, by an engine. Each engine is called here and above, so that it stays a function of its own, and this one is laid into each
-// zero-filling read.
-fn written(
-    engine: Engine,
-    kind: AlphabetType,
-    bytes: &[u8],
-    offset: usize,
-    start: usize,
-    count: usize,
-    out: &mut [u8],
-)
-    requires { Fits start count 0 (length out.old) × Suits engine kind }
-    ensures { out.new ≡ put_at 0 (window (coding kind) bytes.now offset start count) out.old }
-{
-    match engine {
-        Engine::Own => {
-            own(kind, false, bytes, offset, start, count, out);
-        }
-        Engine::Fours => two_bits(bytes, offset, start, count, out),
-        Engine::Blocks => {
-            looked(kind, false, bytes, offset, start, count, out);
-        }
-        Engine::Any => rolled(kind, bytes, offset, start, count, out),
-    }
-}
-
-// The second half of a zero-filling read: what its questions answered, after the bases of an accepted window are written.
-fn answered(
-    answer: Read,
-    engine: Engine,
+// A zero-filling read by an engine, laid into each read, so that its answer is not handed on through memory.
+#[inline(always)]
+fn zero_filling<E: Engine>(
+    engine: E,
     alphabet: u64,
-    bytes: &[u8],
-    offset: usize,
-    start: usize,
-    out: &mut [u8],
-) -> Read
-    requires { Passed answer start (length out.old) × Suits engine (kind_of alphabet) }
-    ensures value { result ≡ answer }
-    ensures out_after { out.new ≡ front (read_writes alphabet bytes.now offset start answer) out.old }
-{
-    let Read::Bases(count) = answer else {
-        return answer;
-    };
-    if count == 0 {
-        return answer;
-    }
-    written(engine, kind_of(alphabet), bytes, offset, start, count, out);
-    answer
-}
-
-// A zero-filling read by an engine.
-fn zero_filling(
-    engine: Engine,
-    alphabet: u64,
-    bytes: &[u8],
-    offset: usize,
+    lent: &Lent<'_>,
     start: usize,
     end: usize,
     out: &mut [u8],
-) -> Read
-    requires { Suits engine (kind_of alphabet) }
-    ensures value { result ≡ read_at alphabet offset start end (length out.old) }
-    ensures out_after { out.new ≡ read_memory alphabet bytes.now offset start end out.old }
+) -> Result<usize, Refusal>
+    requires { E.kind engine ≡ kind_of alphabet }
+    ensures value { result ≡ read_at alphabet lent.now.offset start end (length out.old) }
+    ensures out_after { out.new ≡ read_memory alphabet lent.now.bytes.now lent.now.offset start end out.old }
 {
-    let told = asked(alphabet, offset, start, end, out.len());
-    answered(told, engine, alphabet, bytes, offset, start, out)
+    let count = asked(alphabet, lent.offset, start, end, out.len())?;
+    if count == 0 {
+        return Ok(0);
+    }
+    engine.write(lent.bytes, lent.offset, start, &mut out[..count]);
+    Ok(count)
 }
 
 // The bases from `start` to `end` of the file of which `bytes` are the bytes from `byte_offset` on, written at the front of `out`.
+#[inline(always)]
 pub fn decode_substring_from_bytes_at_offset(
     alphabet: u64,
     bytes: &[u8],
@@ -190,11 +88,16 @@ pub fn decode_substring_from_bytes_at_offset(
     start: usize,
     end: usize,
     out: &mut [u8],
-) -> Read
+) -> Result<usize, Refusal>
     ensures value { result ≡ read_at alphabet byte_offset start end (length out.old) }
     ensures out_after { out.new ≡ read_memory alphabet bytes.now byte_offset start end out.old }
 {
-    zero_filling(Engine::Own, alphabet, bytes, byte_offset, start, end, out)
+    let kind = kind_of(alphabet);
+    let lent = Lent {
+        bytes,
+        offset: byte_offset,
+    };
+    zero_filling(Own { kind }, alphabet, &lent, start, end, out)
 }
 
 // The same where the lent bytes are the file's first.
@@ -204,7 +107,7 @@ pub fn decode_substring_from_bytes(
     start: usize,
     end: usize,
     out: &mut [u8],
-) -> Read
+) -> Result<usize, Refusal>
     ensures value { result ≡ read_at alphabet 0 start end (length out.old) }
     ensures out_after { out.new ≡ read_memory alphabet bytes.now 0 start end out.old }
 {
@@ -212,7 +115,12 @@ pub fn decode_substring_from_bytes(
 }
 
 // The first `seq_len` bases.
-pub fn decode_string_from_bytes(alphabet: u64, bytes: &[u8], seq_len: usize, out: &mut [u8]) -> Read
+pub fn decode_string_from_bytes(
+    alphabet: u64,
+    bytes: &[u8],
+    seq_len: usize,
+    out: &mut [u8],
+) -> Result<usize, Refusal>
     ensures value { result ≡ read_at alphabet 0 0 seq_len (length out.old) }
     ensures out_after { out.new ≡ read_memory alphabet bytes.now 0 0 seq_len out.old }
 {
@@ -228,23 +136,24 @@ pub fn decode_covered(
     start: usize,
     end: usize,
     out: &mut [u8],
-) -> Read
+) -> Result<usize, Refusal>
     ensures value { result ≡ covered_at alphabet bytes.now byte_offset start end (length out.old) }
     ensures out_after { out.new ≡ covered_memory alphabet bytes.now byte_offset start end out.old }
 {
-    let told = asked_covered(alphabet, bytes, byte_offset, start, end, out.len());
-    let Read::Bases(count) = told else {
-        return told;
+    let lent = Lent {
+        bytes,
+        offset: byte_offset,
     };
+    let count = asked_covered(alphabet, &lent, start, end, out.len())?;
     if count == 0 {
-        return told;
+        return Ok(0);
     }
     let kind = kind_of(alphabet);
-    let first = own(kind, true, bytes, byte_offset, start, count, out);
-    if first < end {
-        return Read::Refused(Refusal::NoSymbol(first));
+    if let Some(first) = first_lacking(kind, &lent, start, end) {
+        return Err(Refusal::NoSymbol(first));
     }
-    told
+    Own { kind }.write(bytes, byte_offset, start, &mut out[..count]);
+    Ok(count)
 }
 
 // The engine of Dna2bit: four bases from a byte.
@@ -254,11 +163,15 @@ pub fn decode_2bit(
     start: usize,
     end: usize,
     out: &mut [u8],
-) -> Read
+) -> Result<usize, Refusal>
     ensures value { result ≡ read_at 0 byte_offset start end (length out.old) }
     ensures out_after { out.new ≡ read_memory 0 bytes.now byte_offset start end out.old }
 {
-    zero_filling(Engine::Fours, 0, bytes, byte_offset, start, end, out)
+    let lent = Lent {
+        bytes,
+        offset: byte_offset,
+    };
+    zero_filling(TwoBits, 0, &lent, start, end, out)
 }
 
 // The engine of Dna3bit: eight bases from three bytes.
@@ -268,11 +181,15 @@ pub fn decode_3bit(
     start: usize,
     end: usize,
     out: &mut [u8],
-) -> Read
+) -> Result<usize, Refusal>
     ensures value { result ≡ read_at 1 byte_offset start end (length out.old) }
     ensures out_after { out.new ≡ read_memory 1 bytes.now byte_offset start end out.old }
 {
-    zero_filling(Engine::Blocks, 1, bytes, byte_offset, start, end, out)
+    let lent = Lent {
+        bytes,
+        offset: byte_offset,
+    };
+    zero_filling(ThreeBits, 1, &lent, start, end, out)
 }
 
 // The engine of DnaIupac: two bases from each byte.
@@ -282,11 +199,15 @@ pub fn decode_4bit(
     start: usize,
     end: usize,
     out: &mut [u8],
-) -> Read
+) -> Result<usize, Refusal>
     ensures value { result ≡ read_at 2 byte_offset start end (length out.old) }
     ensures out_after { out.new ≡ read_memory 2 bytes.now byte_offset start end out.old }
 {
-    zero_filling(Engine::Blocks, 2, bytes, byte_offset, start, end, out)
+    let lent = Lent {
+        bytes,
+        offset: byte_offset,
+    };
+    zero_filling(FourBits, 2, &lent, start, end, out)
 }
 
 // The engine of Protein: eight bases from five bytes.
@@ -296,11 +217,15 @@ pub fn decode_5bit(
     start: usize,
     end: usize,
     out: &mut [u8],
-) -> Read
+) -> Result<usize, Refusal>
     ensures value { result ≡ read_at 3 byte_offset start end (length out.old) }
     ensures out_after { out.new ≡ read_memory 3 bytes.now byte_offset start end out.old }
 {
-    zero_filling(Engine::Blocks, 3, bytes, byte_offset, start, end, out)
+    let lent = Lent {
+        bytes,
+        offset: byte_offset,
+    };
+    zero_filling(FiveBits, 3, &lent, start, end, out)
 }
 
 // The engine of any alphabet: the rolling accumulator.
@@ -311,9 +236,14 @@ pub fn decode_rolling(
     start: usize,
     end: usize,
     out: &mut [u8],
-) -> Read
+) -> Result<usize, Refusal>
     ensures value { result ≡ read_at alphabet byte_offset start end (length out.old) }
     ensures out_after { out.new ≡ read_memory alphabet bytes.now byte_offset start end out.old }
 {
-    zero_filling(Engine::Any, alphabet, bytes, byte_offset, start, end, out)
+    let kind = kind_of(alphabet);
+    let lent = Lent {
+        bytes,
+        offset: byte_offset,
+    };
+    zero_filling(Rolling { kind }, alphabet, &lent, start, end, out)
 }

@@ -4,13 +4,10 @@
 mod shown;
 
 use alphabet::AlphabetType::{Ascii, Dna2bit, Dna3bit, DnaIupac, Protein};
-use alphabet::{AlphabetType, Named, Refusal};
-use anyhow::{Result, anyhow};
-use coder::{
-    Encoded, EncoderStarted, Ended, Finalized, Read, SequenceEncoder, Status, StreamStarted,
-    Streamed, StreamingDecoder, Updated,
-};
-use shown::{Foretold, Hex, Letters, Name, Told};
+use alphabet::{AlphabetType, Refusal};
+use anyhow::Result;
+use coder::{SequenceEncoder, Streamed, StreamingDecoder, Updated};
+use shown::{Foretold, Hex, Letters, Told};
 use std::fmt::Display;
 
 // Memory that calls write into holds this byte before, so that what they leave is seen.
@@ -34,15 +31,16 @@ fn tell<T: Display + Drop, E: Into<Refusal>>(
     Ok(())
 }
 
+// A text in one call, which takes the alphabet's number and the choice to fold.
 fn pack(rt: &impl Print, label: &str, kind: AlphabetType, fold: bool, text: &str) -> Result<()> {
     let mut out = [UNWRITTEN; 9];
-    let answer = encoded(coder::encode_sequence(kind.number(), fold, text.as_bytes(), &mut out));
+    let answer = coder::encode_sequence(u64::from(kind), fold, text.as_bytes(), &mut out);
     tell(rt, label, answer.map(|count| Hex(front(&out, count))))
 }
 
 fn finish(rt: &impl Print, encoder: SequenceEncoder) -> Result<()> {
     let mut out = [UNWRITTEN; 9];
-    let answer = finalized(encoder.finalize(&mut out));
+    let answer = encoder.finalize(&mut out);
     tell(rt, "finalize", answer.map(|count| Hex(front(&out, count))))
 }
 
@@ -54,20 +52,22 @@ fn update(
     piece: &str,
 ) -> Result<SequenceEncoder> {
     let mut out = [UNWRITTEN; 9];
-    let (count, next) = updated(encoder.update(piece.as_bytes(), &mut out)).map_err(refused)?;
+    let Updated { count, next } = encoder
+        .update(piece.as_bytes(), &mut out)
+        .map_err(Refusal::from)?;
     println!(rt; "update {label}: {}", Hex(front(&out, count)))?;
     Ok(next)
 }
 
 // A text by one `update`, then `finalize`.
 fn pack_by_update(rt: &impl Print, kind: AlphabetType, text: &str) -> Result<()> {
-    let encoder = started(SequenceEncoder::new(kind.number(), false)).map_err(refused)?;
+    let encoder = SequenceEncoder::new(u64::from(kind), false)?;
     finish(rt, update(rt, text, encoder, text)?)
 }
 
 // Two pieces, then `finalize`: the choice to fold and the non-members so far stay in the state.
 fn pack_pieces(rt: &impl Print, label: &str, fold: bool, one: &str, two: &str) -> Result<()> {
-    let encoder = started(SequenceEncoder::new(Dna2bit.number(), fold)).map_err(refused)?;
+    let encoder = SequenceEncoder::new(u64::from(Dna2bit), fold)?;
     let middle = update(rt, label, encoder, one)?;
     finish(rt, update(rt, two, middle, two)?)
 }
@@ -80,17 +80,12 @@ fn ask(
     piece: &str,
     room: usize,
 ) -> Result<()> {
-    let answer = updated(encoder.ask(piece.as_bytes(), room));
-    tell(
-        rt,
-        label,
-        answer.map(|(count, next)| Foretold { count, next }),
-    )
+    tell(rt, label, encoder.ask(piece.as_bytes(), room).map(Foretold))
 }
 
 // A scheduler asks before it lends memory: with none, with what is enough, with any number; then the piece is packed as it was asked about.
 fn asking(rt: &impl Print) -> Result<()> {
-    let encoder = started(SequenceEncoder::new(Dna2bit.number(), false)).map_err(refused)?;
+    let encoder = SequenceEncoder::new(u64::from(Dna2bit), false)?;
     ask(rt, "ask ACGTA, room 0", encoder, "ACGTA", 0)?;
     ask(rt, "ask ACGTA, room 1", encoder, "ACGTA", 1)?;
     ask(rt, "ask ACGTA, room 2^64 - 1", encoder, "ACGTA", usize::MAX)?;
@@ -101,23 +96,20 @@ fn asking(rt: &impl Print) -> Result<()> {
 
 fn guess(rt: &impl Print, label: &str, fold: bool, text: &str) -> Result<AlphabetType> {
     let kind = alphabet::guess_alphabet(fold, text.as_bytes());
-    println!(rt; "guess {label}: {}", name(kind))?;
+    println!(rt; "guess {label}: {kind}")?;
     Ok(kind)
 }
 
+// By numbers, as the call takes them: either may name no alphabet.
 fn later(rt: &impl Print, label: &str, one: u64, other: u64) -> Result<()> {
-    tell(
-        rt,
-        label,
-        named(alphabet::later_alphabet(one, other)).map(name),
-    )
+    tell(rt, label, alphabet::later_alphabet(one, other))
 }
 
-// Two chromosomes guessed one by one, and the guess of both joined; either number may name no alphabet.
+// Two chromosomes guessed one by one, and the guess of both joined.
 fn genome(rt: &impl Print) -> Result<()> {
     let one = guess(rt, "ACGU", false, "ACGU")?;
     let other = guess(rt, "ACGT", false, "ACGT")?;
-    later(rt, "the later", one.number(), other.number())?;
+    later(rt, "the later", u64::from(one), u64::from(other))?;
     guess(rt, "ACGUACGT", false, "ACGUACGT")?;
     later(rt, "later of 4 and 5", 4, 5)?;
     later(rt, "later of 0 and 6", 0, 6)
@@ -142,16 +134,20 @@ fn counting(rt: &impl Print) -> Result<()> {
 }
 
 // What a read of bytes lent to it answers: the bases that it wrote, or its refusal.
-fn read<D: FnOnce(&mut [u8]) -> Read + Drop>(rt: &impl Print, label: &str, decode: D) -> Result<()>
+fn read<D: FnOnce(&mut [u8]) -> Result<usize, Refusal> + Drop>(
+    rt: &impl Print,
+    label: &str,
+    decode: D,
+) -> Result<()>
     requires { D.IsAlwaysCallable decode }
 {
     let mut out = [UNWRITTEN; 9];
-    let answer = bases(decode(&mut out));
+    let answer = decode(&mut out);
     tell(rt, label, answer.map(|count| Letters(front(&out, count))))
 }
 
 fn windows(rt: &impl Print) -> Result<()> {
-    let alphabet = Dna2bit.number();
+    let alphabet = u64::from(Dna2bit);
     let bytes = [0x80];
     read(rt, "80 at 1, Dna2bit, 2 to 5", |out| {
         coder::decode_substring_from_bytes_at_offset(alphabet, &bytes, 1, 2, 5, out)
@@ -169,7 +165,7 @@ fn windows(rt: &impl Print) -> Result<()> {
 
 // Codes that Protein's list lacks: a zero-filling read shows X, the covered read tells the first of them.
 fn residues(rt: &impl Print) -> Result<()> {
-    let alphabet = Protein.number();
+    let alphabet = u64::from(Protein);
     read(rt, "e8, Protein, 0 to 1", |out| {
         coder::decode_string_from_bytes(alphabet, &[0xE8], 1, out)
     })?;
@@ -188,11 +184,11 @@ fn residues(rt: &impl Print) -> Result<()> {
 }
 
 fn stream(rt: &impl Print) -> Result<()> {
-    let stream = streaming(StreamingDecoder::new(Dna3bit.number(), 3, 0)).map_err(refused)?;
+    let stream = StreamingDecoder::new(u64::from(Dna3bit), 3, 0)?;
     let mut out = [UNWRITTEN; 4];
-    let (status, next) = moved(stream.read(&[], &mut out)).map_err(refused)?;
-    println!(rt; "stream, skip 3, budget 0, no source: {}", name_of(status))?;
-    tell(rt, "end call", ended(next.end()).map(|()| "complete"))
+    let Streamed { status, next, .. } = stream.read(&[], &mut out).map_err(Refusal::from)?;
+    println!(rt; "stream, skip 3, budget 0, no source: {status}")?;
+    tell(rt, "end call", next.end().map(|()| "complete"))
 }
 
 fn main(rt: HostRuntime) -> Result<()> {
@@ -211,90 +207,4 @@ fn main(rt: HostRuntime) -> Result<()> {
     residues(rt)?;
     stream(rt)?;
     genome(rt)
-}
-
-// ---- until these are Results
-
-fn encoded(answer: Encoded) -> Result<usize, Refusal> {
-    match answer {
-        Encoded::Wrote(count) => Ok(count),
-        Encoded::Refused(refusal) => Err(refusal),
-    }
-}
-
-fn finalized(answer: Finalized) -> Result<usize, Refusal> {
-    match answer {
-        Finalized::Wrote(count) => Ok(count),
-        Finalized::Refused(refusal, _) => Err(refusal),
-    }
-}
-
-fn updated(answer: Updated) -> Result<(usize, SequenceEncoder), Refusal> {
-    match answer {
-        Updated::Wrote(count, next) => Ok((count, next)),
-        Updated::Refused(refusal, _) => Err(refusal),
-    }
-}
-
-fn started(answer: EncoderStarted) -> Result<SequenceEncoder, Refusal> {
-    match answer {
-        EncoderStarted::Fresh(encoder) => Ok(encoder),
-        EncoderStarted::Refused(refusal) => Err(refusal),
-    }
-}
-
-fn refused(refusal: Refusal) -> anyhow::Error {
-    anyhow!("{}", Told(refusal))
-}
-
-fn bases(answer: Read) -> Result<usize, Refusal> {
-    match answer {
-        Read::Bases(count) => Ok(count),
-        Read::Refused(refusal) => Err(refusal),
-    }
-}
-
-fn named(answer: Named) -> Result<AlphabetType, Refusal> {
-    match answer {
-        Named::Kind(kind) => Ok(kind),
-        Named::Refused(refusal) => Err(refusal),
-    }
-}
-
-fn name(kind: AlphabetType) -> Name {
-    Name(kind.display_name())
-}
-
-fn name_of(status: Status) -> &'static str {
-    match status {
-        Status::Hungry => "Hungry",
-        Status::Done => "Done",
-        Status::Full => "Full",
-    }
-}
-
-fn streaming(answer: StreamStarted) -> Result<StreamingDecoder, Refusal> {
-    match answer {
-        StreamStarted::Fresh(stream) => Ok(stream),
-        StreamStarted::Refused(refusal) => Err(refusal),
-    }
-}
-
-fn moved(answer: Streamed) -> Result<(Status, StreamingDecoder), Refusal> {
-    match answer {
-        Streamed::Moved {
-            taken: _,
-            written: _,
-            status,
-            next,
-        } => Ok((status, next)),
-        Streamed::Refused(refusal, _) => Err(refusal),
-    }
-}
-
-fn ended(answer: Ended) -> Result<(), Refusal> {
-    match answer {
-        Ended::Complete => Ok(()),
-        Ended::Refused(refusal, _) => Err(refusal),
-    }
 }

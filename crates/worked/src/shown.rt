@@ -1,6 +1,6 @@
 // How answers are printed.
 use alphabet::Refusal;
-use coder::SequenceEncoder;
+use coder::Updated;
 use std::fmt::{self, Display, Formatter, Write};
 
 // Bytes in hexadecimal.
@@ -35,44 +35,28 @@ pub struct Told(pub Refusal);
 
 impl Display for Told {
     fn fmt<W: Write>(&self, f: &mut Formatter<W>) -> fmt::Result {
-        let number = self.0.number();
-        match self.0 {
+        let refusal = self.0;
+        write!(f, "{refusal}")?;
+        match refusal {
             Refusal::NonMember {
                 position,
                 byte,
                 count,
-            } => write!(
-                f,
-                "refused {number}, position {position}, byte {byte:02x}, count {count}"
-            ),
-            Refusal::Outstanding(bases) => write!(f, "refused {number}, {bases} outstanding"),
-            Refusal::NoSymbol(base) => write!(f, "refused {number}, base {base}"),
-            _ => write!(f, "refused {number}"),
+            } => write!(f, ", position {position}, byte {byte:02x}, count {count}"),
+            Refusal::Outstanding(bases) => write!(f, ", {bases} outstanding"),
+            Refusal::NoSymbol(base) => write!(f, ", base {base}"),
+            _ => Ok(()),
         }
-    }
-}
-
-// An alphabet's display name.
-#[derive(Drop)]
-pub struct Name(pub alphabet::Name);
-
-impl Display for Name {
-    fn fmt<W: Write>(&self, f: &mut Formatter<W>) -> fmt::Result {
-        write!(f, "{}", Letters(&self.0.bytes[..self.0.len.min(7)]))
     }
 }
 
 // What `ask` answers: how many bytes would be written, and what the next state has seen and keeps.
 #[derive(Drop)]
-pub struct Foretold {
-    pub count: usize,
-    pub next: SequenceEncoder,
-}
+pub struct Foretold(pub Updated);
 
 impl Display for Foretold {
     fn fmt<W: Write>(&self, f: &mut Formatter<W>) -> fmt::Result {
-        let count = self.count;
-        let next = self.next;
+        let Updated { count, next } = self.0;
         write!(
             f,
             "{count} to be written, {} seen, {} bits pending, value {}, non-members {}",
