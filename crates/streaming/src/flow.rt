@@ -138,16 +138,12 @@ impl<'a, const B: usize> Packed<'a, B> {
         ensures value { result ≡ all_moved self.now.start.state self.now.start.source.now (length out.old) }
         ensures out_after { out.new ≡ all_filled self.now.start.state self.now.start.source.now out.old }
     {
-        let state = self.start.state;
         let source = self.start.source;
         let limit = self.start.limit(out.len());
-        let Flow {
-            mut acc,
-            mut have,
-            mut taken,
-            written,
-        } = from;
-        for n in written..limit {
+        let mut acc = from.acc;
+        let mut have = from.have;
+        let mut taken = from.taken;
+        for n in from.written..limit {
             if have < B {
                 if taken == source.len() {
                     let end = Flow {
@@ -156,7 +152,7 @@ impl<'a, const B: usize> Packed<'a, B> {
                         taken,
                         written: n,
                     };
-                    return answered(state, end, out.len());
+                    return answered(self.start.state, end, out.len());
                 }
                 acc = push_byte(acc, source[taken]);
                 taken += 1;
@@ -172,7 +168,7 @@ impl<'a, const B: usize> Packed<'a, B> {
             taken,
             written: limit,
         };
-        answered(state, end, out.len())
+        answered(self.start.state, end, out.len())
     }
 
     // The bases of the call: in blocks, and then one by one.
