@@ -1,5 +1,5 @@
 // Packing: the encoder, whole texts, byte ranges.
-ghost use Rattle.std.specs.Prelude.{◌≡◌, Result, length};
+ghost use Rattle.std.specs.Prelude.{◌≡◌, true, length};
 ghost use Rattle.alphabet.specs.Answers.{count_reply};
 ghost use Rattle.packing.specs.Encode.{encode_at, encode_memory};
 ghost use Rattle.packing.specs.Range.{range_at};
@@ -31,6 +31,7 @@ pub fn fc_encode_sequence(alphabet: u64, fold: u64, text: &[u8], out: &mut [u8])
 impl From<SequenceEncoder> for Encoder {
     ghost from_gives = { λ state numbers. numbers ≡ outside state };
 
+    #[tactic(auto, unfolding(crate::specs::Encoders::outside))]
     fn from(state: SequenceEncoder) -> Encoder {
         let (has_bad, bad_position, bad_byte) = match state.bad.first {
             None => (0, 0, 0),
@@ -52,6 +53,7 @@ impl From<SequenceEncoder> for Encoder {
 
 impl Encoder {
     // The first non-member that the numbers name.
+    #[tactic(auto, unfolding(crate::specs::Encoders::inside))]
     fn first(self) -> Option<Stranger>
         requires { fitting self ≡ true }
         ensures { result ≡ (inside self).bad.first }
@@ -66,6 +68,7 @@ impl Encoder {
     }
 
     // Whether `fold` is 0 or 1, `has_bad` is 0 or 1 and a first non-member is a byte.
+    #[tactic(auto, unfolding(crate::specs::Encoders::fitting))]
     fn is_fitting(self) -> bool
         ensures { result ≡ fitting self }
     {
@@ -80,6 +83,7 @@ impl TryFrom<Encoder> for SequenceEncoder {
 
     ghost try_from_gives = { λ numbers r. r ≡ state_of numbers };
 
+    #[tactic(auto, unfolding(crate::specs::Encoders::state_of, crate::specs::Encoders::inside))]
     fn try_from(numbers: Encoder) -> Result<SequenceEncoder, Refusal> {
         let alphabet = AlphabetType::try_from(numbers.alphabet)?;
         if !numbers.is_fitting() || 255 < numbers.pending_bits || 255 < numbers.pending {
@@ -100,6 +104,7 @@ impl TryFrom<Encoder> for SequenceEncoder {
 }
 
 // An encoder that has seen nothing; a refused start echoes its arguments as they came, so that the state is refused again.
+#[tactic(auto, unfolding(crate::specs::Encoders::encoder_started))]
 pub fn fc_encoder_new(alphabet: u64, fold: u64) -> EncoderStarted
     ensures { result ≡ encoder_started alphabet fold }
 {
@@ -151,12 +156,14 @@ fn ask(state: Encoder, piece: &[u8], room: u64) -> Result<packing::Updated, Refu
 }
 
 // What `fc_encoder_update` would answer with memory of `room` bytes; none is lent.
+#[tactic(auto, unfolding(crate::specs::Encoders::encoder_updated))]
 pub fn fc_encoder_ask(state: Encoder, piece: &[u8], room: u64) -> Updated
     ensures { result ≡ encoder_updated state piece.now room }
 {
     told(state, ask(state, piece, room))
 }
 
+#[tactic(auto, unfolding(crate::specs::Encoders::encoder_update_memory))]
 fn update(state: Encoder, piece: &[u8], out: &mut [u8]) -> Result<packing::Updated, Refusal>
     ensures value { result ≡ answer_from piece.now (length out.old) (state_of state) }
     ensures memory { out.new ≡ encoder_update_memory state piece.now out.old }
@@ -166,6 +173,7 @@ fn update(state: Encoder, piece: &[u8], out: &mut [u8]) -> Result<packing::Updat
 }
 
 // A piece packed behind what pends.
+#[tactic(auto, unfolding(crate::specs::Encoders::encoder_updated))]
 pub fn fc_encoder_update(state: Encoder, piece: &[u8], out: &mut [u8]) -> Updated
     ensures value { result ≡ encoder_updated state piece.now (length out.old) }
     ensures memory { out.new ≡ encoder_update_memory state piece.now out.old }
@@ -173,6 +181,7 @@ pub fn fc_encoder_update(state: Encoder, piece: &[u8], out: &mut [u8]) -> Update
     told(state, update(state, piece, out))
 }
 
+#[tactic(auto, unfolding(crate::specs::Encoders::finalize_told, crate::specs::Encoders::encoder_finalize_memory))]
 fn finalize(state: Encoder, out: &mut [u8]) -> Result<usize, Refusal>
     ensures value { count_reply result ≡ finalize_told state (length out.old) }
     ensures memory { out.new ≡ encoder_finalize_memory state out.old }

@@ -12,6 +12,7 @@ use alphabet::{AlphabetGuesser, Refusal, guess_alphabet};
 impl From<AlphabetGuesser> for Guesser {
     ghost from_gives = { λ state numbers. numbers ≡ outside state };
 
+    #[tactic(auto, unfolding(crate::specs::Guesses::outside))]
     fn from(state: AlphabetGuesser) -> Guesser {
         Guesser {
             mask: u64::from(state.acc),
@@ -26,6 +27,7 @@ impl TryFrom<Guesser> for AlphabetGuesser {
 
     ghost try_from_gives = { λ numbers r. r ≡ state_of numbers };
 
+    #[tactic(auto, unfolding(crate::specs::Guesses::state_of, crate::specs::Guesses::inside))]
     fn try_from(numbers: Guesser) -> Result<AlphabetGuesser, Refusal> {
         if 255 < numbers.mask || 1 < numbers.fold {
             return Err(Refusal::Unsound);
@@ -53,6 +55,7 @@ fn update(state: Guesser, text: &[u8]) -> Result<AlphabetGuesser, Refusal>
 
 // The state after a text. A mask outside 16 to 31, 64 bits wide as it comes, is refused by 1, and so is a `fold` above 1. The choice that is handed back is the
 // number that came: read from the next state it would be loaded together with the mask, which was stored by itself a moment before, and short texts would wait.
+#[tactic(auto, unfolding(crate::specs::Guesses::guesser_updated, crate::specs::Guesses::outside))]
 pub fn fc_guesser_update(state: Guesser, text: &[u8]) -> Guessing
     ensures { result ≡ guesser_updated state text.now }
 {
@@ -71,6 +74,7 @@ pub fn fc_guesser_update(state: Guesser, text: &[u8]) -> Guessing
     }
 }
 
+#[tactic(auto, unfolding(crate::specs::Guesses::guesser_told))]
 fn guess(state: Guesser) -> Result<u64, Refusal>
     ensures { count_reply result ≡ guesser_told state }
 {
@@ -86,6 +90,7 @@ pub fn fc_guesser_guess(state: Guesser) -> Number
 }
 
 // The number of the alphabet guessed for a whole text.
+#[tactic(auto, unfolding(crate::specs::Guesses::guessed_told))]
 pub fn fc_guess_alphabet(fold: u64, text: &[u8]) -> Number
     ensures { result ≡ number (guessed_told fold text.now) }
 {

@@ -15,6 +15,7 @@ pub fn fc_abi_version() -> u64
     4
 }
 
+#[tactic(auto, unfolding(crate::specs::Kinds::bits_told))]
 fn bits_per_symbol(alphabet: u64) -> Result<u64, Refusal>
     ensures { count_reply result ≡ bits_told alphabet }
 {
@@ -29,6 +30,7 @@ pub fn fc_bits_per_symbol(alphabet: u64) -> Number
     Number::from(bits_per_symbol(alphabet))
 }
 
+#[tactic(auto, unfolding(crate::specs::Kinds::contains_told))]
 fn contained(alphabet: u64, byte: u64) -> Result<u64, Refusal>
     ensures { count_reply result ≡ contains_told alphabet byte }
 {
@@ -58,6 +60,7 @@ pub fn fc_later_alphabet(one: u64, other: u64) -> Number
     Number::from(later(one, other))
 }
 
+#[tactic(auto, unfolding(crate::specs::Kinds::name_told, crate::specs::Kinds::name_memory))]
 fn name(alphabet: u64, out: &mut [u8]) -> Result<usize, Refusal>
     ensures value { count_reply result ≡ name_told alphabet (length out.old) }
     ensures memory { out.new ≡ name_memory alphabet out.old }

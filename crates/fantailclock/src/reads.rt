@@ -22,7 +22,14 @@ pub fn fc_decode_substring_from_bytes_at_offset(
     ensures value { result ≡ count (read_reply (read_at alphabet byte_offset start end (length out.old))) }
     ensures memory { out.new ≡ read_memory alphabet bytes.now byte_offset start end out.old }
 {
-    Count::from(decode_substring_from_bytes_at_offset(alphabet, bytes, byte_offset, start, end, out))
+    Count::from(decode_substring_from_bytes_at_offset(
+        alphabet,
+        bytes,
+        byte_offset,
+        start,
+        end,
+        out,
+    ))
 }
 
 // The same where the lent bytes are the file's first.

@@ -5,7 +5,7 @@ ghost use Rattle.alphabet.specs.Questions.{refusal_reply, number_in};
 ghost use Rattle.alphabet.specs.Answers.{count_reply};
 ghost use Rattle.packing.specs.Answers.{range_reply};
 ghost use Rattle.streaming.specs.Answers.{ended_reply};
-ghost use Rattle.fantailclock.specs.Shapes.{number, count, covered, range, packed, ended, details};
+ghost use Rattle.fantailclock.specs.Shapes.{number, count, covered, range, packed, ended, end_reply, details};
 
 use alphabet::Refusal;
 use packing::ByteRange;

@@ -11,6 +11,7 @@ use streaming::StreamingDecoder;
 impl From<StreamingDecoder> for Stream {
     ghost from_gives = { λ state numbers. numbers ≡ outside state };
 
+    #[tactic(auto, unfolding(crate::specs::Streams::outside))]
     fn from(state: StreamingDecoder) -> Stream {
         Stream {
             alphabet: u64::from(state.alphabet),
@@ -29,6 +30,7 @@ impl TryFrom<Stream> for StreamingDecoder {
 
     ghost try_from_gives = { λ numbers r. r ≡ state_of numbers };
 
+    #[tactic(auto, unfolding(crate::specs::Streams::state_of, crate::specs::Streams::inside))]
     fn try_from(numbers: Stream) -> Result<StreamingDecoder, Refusal> {
         let alphabet = AlphabetType::try_from(numbers.alphabet)?;
         if 255 < numbers.skip || 255 < numbers.pending_bits || 255 < numbers.pending {
@@ -45,6 +47,7 @@ impl TryFrom<Stream> for StreamingDecoder {
 }
 
 // A stream that has taken nothing; a refused start echoes its arguments, so that the state is refused again.
+#[tactic(auto, unfolding(crate::specs::Streams::stream_started))]
 pub fn fc_stream_new(alphabet: u64, skip: u64, budget: u64) -> StreamStarted
     ensures { result ≡ stream_started alphabet skip budget }
 {
@@ -64,6 +67,7 @@ pub fn fc_stream_new(alphabet: u64, skip: u64, budget: u64) -> StreamStarted
     }
 }
 
+#[tactic(auto, unfolding(crate::specs::Streams::streamed_memory))]
 fn read(state: Stream, source: &[u8], out: &mut [u8]) -> Result<streaming::Streamed, Refusal>
     ensures value { result ≡ answer_from source.now (length out.old) (state_of state) }
     ensures memory { out.new ≡ streamed_memory state source.now out.old }
@@ -73,6 +77,7 @@ fn read(state: Stream, source: &[u8], out: &mut [u8]) -> Result<streaming::Strea
 }
 
 // The bases that the source's bytes give, at the front of the memory.
+#[tactic(auto, unfolding(crate::specs::Streams::streamed))]
 pub fn fc_stream_read(state: Stream, source: &[u8], out: &mut [u8]) -> Streamed
     ensures value { result ≡ streamed state source.now (length out.old) }
     ensures memory { out.new ≡ streamed_memory state source.now out.old }
@@ -95,6 +100,7 @@ pub fn fc_stream_read(state: Stream, source: &[u8], out: &mut [u8]) -> Streamed
     }
 }
 
+#[tactic(auto, unfolding(crate::specs::Streams::end_told))]
 fn end(state: Stream) -> Result<(), Refusal>
     ensures { end_reply result ≡ end_told state }
 {
