@@ -1,5 +1,5 @@
 -- Every decoder's call that is set to a window of what an encoder's list wrote gives the window's symbols.
-use Rattle.std.proofs.Common.{Ok, Err}
+use Rattle.std.proofs.Common.{Ok, Err, Result}
 use mathlib.Core.Path.{◌≡◌, refl, sym, ap, ap₂, ◌∙◌}
 use mathlib.Core.Bool.{Bool, true, false, ◌&&◌}
 use mathlib.Core.List.{List, [], ◌∷◌, map}
@@ -12,7 +12,9 @@ use Rattle.bits.specs.Streams.{bit_at}
 use Rattle.bits.specs.Packing.{pack, first_byte, end_byte}
 use Rattle.alphabet.specs.Questions.{ask◌else◌then◌, by, in_bounds}
 use Rattle.alphabet.specs.Symbols.{Coding}
-use Rattle.packing.specs.declared.range.Range.{Range}
+use Rattle.packing.specs.declared.range.ByteRange.{ByteRange}
+use Rattle.alphabet.specs.declared.refusal.Refusal.{Refusal}
+use Rattle.alphabet.proofs.Calls.{ok_same}
 use Rattle.packing.specs.Encode.{digits_of, packing}
 use Rattle.packing.specs.Range.{range_at}
 use Rattle.windows.specs.Window.{read_at, read_memory, covered_at, covered_memory}
@@ -40,9 +42,12 @@ range-names s e b from to q = go (leb b 8) (in_bounds s && in_bounds e) q
   where
     go :
         (x y : Bool) →
-        (ask x else Err (by 9 []) then ask y else Err (by 2 []) then Ok (record { from = first_byte b s; to = end_byte b e })) ≡ Ok (record { from = from; to = to }) →
+        ◌≡◌ {A = Result ByteRange Refusal} (ask x else Err (by 9 []) then ask y else Err (by 2 []) then Ok (record { from = first_byte b s; to = end_byte b e }))
+        (Ok (record { from = from; to = to })) →
         (from ≡ first_byte b s) × (to ≡ end_byte b e)
-    go true true q = (cc, cc)
+    go true true q =
+        let same : record { from = first_byte b s; to = end_byte b e } ≡ record { from = from; to = to } = ok_same {B = Refusal} refl q in
+        (ap (λ (r : ByteRange). r.from) (sym same), ap (λ (r : ByteRange). r.to) (sym same))
     go true false q = let z : ◌≡◌ {A = ℕ} 0 1 = cc in absurd (omega arith)
     go false y q = let z : ◌≡◌ {A = ℕ} 0 1 = cc in absurd (omega arith)
 

@@ -22,8 +22,7 @@ use Rattle.alphabet.specs.Names.{known, kind_of, numbered}
 use Rattle.windows.specs.Window.{window}
 use Rattle.windows.proofs.Given.{window_first}
 use Rattle.streaming.specs.declared.decoder.StreamingDecoder.{StreamingDecoder}
-use Rattle.streaming.specs.declared.decoder.Status.TheVariants.{Hungry}
-use Rattle.streaming.specs.declared.decoder.Streamed.{Streamed}
+use Rattle.streaming.specs.declared.status.Status.TheVariants.{Hungry}
 use Rattle.streaming.specs.Answers.{ended_reply}
 use Rattle.streaming.specs.Stream.{fresh_stream, start_stream_at, status_for, end_at}
 use Rattle.streaming.specs.Count.{Place, begin, taken_by, complete, source_of, offered, reached, place_after, bases_between, stands_for}

@@ -8,7 +8,6 @@ use Rattle.bits.specs.Memory.{front}
 use Rattle.alphabet.specs.declared.kind.AlphabetType.{AlphabetType}
 use Rattle.alphabet.specs.declared.kind.AlphabetType.TheVariants.{Dna2bit, Dna3bit, DnaIupac, Protein}
 use Rattle.alphabet.specs.Names.{number_of}
-use Rattle.packing.specs.declared.range.Range.{Range}
 use Rattle.record.specs.Made.{EnginePost, EngineCall, RangeCall, AtOffsetCall, SubstringCall, StringCall}
 use Rattle.record.specs.Made.{CoveredCall, TwoBitCall, ThreeBitCall, FourBitCall, FiveBitCall, RollingCall}
 use Rattle.record.specs.EncoderLists.{EncoderList, alphabet_in, coding_in, Finished, text_in, bytes_in}

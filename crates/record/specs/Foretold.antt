@@ -3,7 +3,6 @@ use Rattle.std.specs.Prelude.{ℕ, ◌≤◌, ◌≡◌, List, [], leb, length, 
 use Rattle.alphabet.specs.Questions.{ask◌else◌then◌, by, limit, number_in}
 use Rattle.packing.specs.Answers.{updated_reply}
 use Rattle.packing.specs.declared.encoder.SequenceEncoder.{SequenceEncoder}
-use Rattle.packing.specs.declared.encoder.Updated.{Updated}
 use Rattle.record.specs.Made.{AskCall, UpdateCall}
 use Rattle.alphabet.specs.Refusing.{◌keeping◌}
 

@@ -8,7 +8,8 @@ use Rattle.alphabet.specs.Questions.{accepted, refused}
 use Rattle.alphabet.specs.Symbols.{Coding}
 use Rattle.alphabet.specs.Names.{numbered, numbered_by}
 use Rattle.packing.specs.Encode.{packing}
-use Rattle.streaming.specs.declared.decoder.Status.TheVariants.{Hungry}
+use Rattle.streaming.specs.declared.status.Status.TheVariants.{Hungry}
+use Rattle.streaming.specs.declared.decoder.StreamingDecoder.{StreamingDecoder}
 use Rattle.streaming.specs.declared.decoder.Streamed.{Streamed}
 use Rattle.streaming.specs.Answers.{ended_reply}
 use Rattle.streaming.specs.Count.{Place, begin, taken_by, source_of, bases_between, took_by}

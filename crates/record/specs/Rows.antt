@@ -29,6 +29,7 @@ use Rattle.record.specs.Runs.{next_encoder, run}
 use Rattle.alphabet.specs.declared.refusal.Refusal.{Refusal}
 use Rattle.alphabet.specs.declared.refusal.Refused.{Refused}
 use Rattle.packing.specs.declared.stranger.Stranger.{Stranger}
+use Rattle.streaming.specs.declared.decoder.StreamingDecoder.{StreamingDecoder}
 
 -- ---- rows
 
