@@ -2,11 +2,10 @@
 #![tactic(auto)]
 
 pub use packing::{
-    Bad, Encoded, EncoderStarted, Finalized, First, Range, SequenceEncoder, Updated,
-    byte_range_for_bases, encode_sequence,
+    Bad, ByteRange, SequenceEncoder, Stranger, Updated, byte_range_for_bases, encode_sequence,
 };
-pub use streaming::{Ended, Status, StreamStarted, Streamed, StreamingDecoder};
+pub use streaming::{Status, Streamed, StreamingDecoder};
 pub use windows::{
-    Read, decode_2bit, decode_3bit, decode_4bit, decode_5bit, decode_covered, decode_rolling,
+    decode_2bit, decode_3bit, decode_4bit, decode_5bit, decode_covered, decode_rolling,
     decode_string_from_bytes, decode_substring_from_bytes, decode_substring_from_bytes_at_offset,
 };
