@@ -80,7 +80,7 @@ fn whole_bytes(lent: &Lent<'_>, first: usize, out: &mut [u8]) -> usize
     count * 4
 }
 
-// The bases from base `start` on, one at a time.
+// The bases from base `start` on, one at a time: made by arithmetic, and so no case of the alphabets that have a table.
 fn singles(lent: &Lent<'_>, start: usize, out: &mut [u8])
     requires { start + length out.old ≤ 2 ^ 60 }
     ensures { out.new ≡ window (coding Dna2bit) lent.now.bytes.now lent.now.offset start (length out.old) }

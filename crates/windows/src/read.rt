@@ -62,20 +62,21 @@ impl Engine for Own {
 fn zero_filling<E: Engine>(
     engine: E,
     alphabet: u64,
-    lent: &Lent<'_>,
+    bytes: &[u8],
+    offset: usize,
     start: usize,
     end: usize,
     out: &mut [u8],
 ) -> Result<usize, Refusal>
     requires { E.kind engine ≡ kind_of alphabet }
-    ensures value { result ≡ read_at alphabet lent.now.offset start end (length out.old) }
-    ensures out_after { out.new ≡ read_memory alphabet lent.now.bytes.now lent.now.offset start end out.old }
+    ensures value { result ≡ read_at alphabet offset start end (length out.old) }
+    ensures out_after { out.new ≡ read_memory alphabet bytes.now offset start end out.old }
 {
-    let count = asked(alphabet, lent.offset, start, end, out.len())?;
+    let count = asked(alphabet, offset, start, end, out.len())?;
     if count == 0 {
         return Ok(0);
     }
-    engine.write(lent.bytes, lent.offset, start, &mut out[..count]);
+    engine.write(bytes, offset, start, &mut out[..count]);
     Ok(count)
 }
 
@@ -93,14 +94,11 @@ pub fn decode_substring_from_bytes_at_offset(
     ensures out_after { out.new ≡ read_memory alphabet bytes.now byte_offset start end out.old }
 {
     let kind = kind_of(alphabet);
-    let lent = Lent {
-        bytes,
-        offset: byte_offset,
-    };
-    zero_filling(Own { kind }, alphabet, &lent, start, end, out)
+    zero_filling(Own { kind }, alphabet, bytes, byte_offset, start, end, out)
 }
 
 // The same where the lent bytes are the file's first.
+#[inline(always)]
 pub fn decode_substring_from_bytes(
     alphabet: u64,
     bytes: &[u8],
@@ -167,11 +165,7 @@ pub fn decode_2bit(
     ensures value { result ≡ read_at 0 byte_offset start end (length out.old) }
     ensures out_after { out.new ≡ read_memory 0 bytes.now byte_offset start end out.old }
 {
-    let lent = Lent {
-        bytes,
-        offset: byte_offset,
-    };
-    zero_filling(TwoBits, 0, &lent, start, end, out)
+    zero_filling(TwoBits, 0, bytes, byte_offset, start, end, out)
 }
 
 // The engine of Dna3bit: eight bases from three bytes.
@@ -185,11 +179,7 @@ pub fn decode_3bit(
     ensures value { result ≡ read_at 1 byte_offset start end (length out.old) }
     ensures out_after { out.new ≡ read_memory 1 bytes.now byte_offset start end out.old }
 {
-    let lent = Lent {
-        bytes,
-        offset: byte_offset,
-    };
-    zero_filling(ThreeBits, 1, &lent, start, end, out)
+    zero_filling(ThreeBits, 1, bytes, byte_offset, start, end, out)
 }
 
 // The engine of DnaIupac: two bases from each byte.
@@ -203,11 +193,7 @@ pub fn decode_4bit(
     ensures value { result ≡ read_at 2 byte_offset start end (length out.old) }
     ensures out_after { out.new ≡ read_memory 2 bytes.now byte_offset start end out.old }
 {
-    let lent = Lent {
-        bytes,
-        offset: byte_offset,
-    };
-    zero_filling(FourBits, 2, &lent, start, end, out)
+    zero_filling(FourBits, 2, bytes, byte_offset, start, end, out)
 }
 
 // The engine of Protein: eight bases from five bytes.
@@ -221,11 +207,7 @@ pub fn decode_5bit(
     ensures value { result ≡ read_at 3 byte_offset start end (length out.old) }
     ensures out_after { out.new ≡ read_memory 3 bytes.now byte_offset start end out.old }
 {
-    let lent = Lent {
-        bytes,
-        offset: byte_offset,
-    };
-    zero_filling(FiveBits, 3, &lent, start, end, out)
+    zero_filling(FiveBits, 3, bytes, byte_offset, start, end, out)
 }
 
 // The engine of any alphabet: the rolling accumulator.
@@ -240,10 +222,8 @@ pub fn decode_rolling(
     ensures value { result ≡ read_at alphabet byte_offset start end (length out.old) }
     ensures out_after { out.new ≡ read_memory alphabet bytes.now byte_offset start end out.old }
 {
-    let kind = kind_of(alphabet);
-    let lent = Lent {
-        bytes,
-        offset: byte_offset,
+    let engine = Rolling {
+        kind: kind_of(alphabet),
     };
-    zero_filling(Rolling { kind }, alphabet, &lent, start, end, out)
+    zero_filling(engine, alphabet, bytes, byte_offset, start, end, out)
 }
