@@ -1,5 +1,6 @@
 -- The place of a byte in a word, and a word's number.
-use Rattle.std.proofs.Common.{◌≡◌, refl, ℕ, ◌+◌, ◌*◌, ◌<◌, ◌≤◌, ◌==◌, List, [], ◌∷◌, length, get_or, take, drop, position, IfSome, Some, None, add-one, arith}
+use Rattle.std.proofs.Common.{◌≡◌, refl, ℕ, ◌+◌, ◌*◌, ◌<◌, ◌≤◌, ◌==◌, IfSome, Some, None, add-one, arith}
+use Rattle.std.proofs.Common.{List, [], ◌∷◌, length, get_or, take, drop, position}
 use Rattle.std.specs.List.{position_or_len}
 use Rattle.std.proofs.lemmas.List.Recursion.{is_position_or_len}
 use Rattle.std.proofs.lemmas.Grind.{common_steps}
@@ -12,12 +13,14 @@ index_of_is : (x : ℕ) (xs : List ℕ) → index_of x xs ≡ position_or_len (�
 unfolding index_of
 index_of_is x xs = is_position_or_len (index_of x) (λ (y : ℕ). y == x) refl (λ y ys. grind (arith, common_steps)) xs
 
+-- where there is one
 pub place_at : (x : ℕ) (xs : List ℕ) (i : ℕ) → position (λ (y : ℕ). y == x) xs ≡ Some i → (i ≡ index_of x xs) × (i < length xs)
 place_at x xs i e = let f = index_of_is x xs in grind (arith, common_steps)
 
 pub place_some : (x : ℕ) (xs : List ℕ) → IfSome (position (λ (y : ℕ). y == x) xs) (λ i. (i ≡ index_of x xs) × (i < length xs))
 place_some x xs = let f = index_of_is x xs in grind (arith, common_steps)
 
+-- where there is none
 index_of_within : (x : ℕ) (xs : List ℕ) → index_of x xs ≤ length xs
 unfolding index_of
 index_of_within x [] = omega arith
@@ -37,5 +40,6 @@ pub written_whole : (v : ℕ) (word : List ℕ) (i : ℕ) → length word ≤ i 
 unfolding written_behind
 written_whole v word i h = rw (drop_all i word h) refl
 
+-- a line without a space is its name
 pub named_whole : (x : ℕ) (xs : List ℕ) → position (λ (y : ℕ). y == x) xs ≡ None → xs ≡ take (index_of x xs) xs
 named_whole x xs e = let n = place_none x xs e in grind (arith, common_steps)

@@ -63,14 +63,14 @@ impl Encoders {
         ensures { IfOk result (λ _. takes_encoders self ≡ length given.now) }
     {
         let row = match (self, given) {
-            (Encoders::New, [alphabet, fold]) => fc_encoder_new(*alphabet, *fold).row(alloc),
+            (Encoders::New, &[alphabet, fold]) => fc_encoder_new(alphabet, fold).row(alloc),
             (Encoders::Update, state) => fc_encoder_update(encoder(state)?, text, out).row(alloc),
             (Encoders::Finalize, state) => fc_encoder_finalize(encoder(state)?, out).row(alloc),
-            (Encoders::EncodeSequence, [alphabet, fold]) => {
-                fc_encode_sequence(*alphabet, *fold, text, out).row(alloc)
+            (Encoders::EncodeSequence, &[alphabet, fold]) => {
+                fc_encode_sequence(alphabet, fold, text, out).row(alloc)
             }
-            (Encoders::ByteRangeForBases, [start, end, bits]) => {
-                fc_byte_range_for_bases(*start, *end, *bits).row(alloc)
+            (Encoders::ByteRangeForBases, &[start, end, bits]) => {
+                fc_byte_range_for_bases(start, end, bits).row(alloc)
             }
             (Encoders::Ask, [state @ .., room]) => {
                 fc_encoder_ask(encoder(state)?, text, *room).row(alloc)

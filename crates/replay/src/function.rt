@@ -73,7 +73,8 @@ impl TryFrom<&[u8]> for Function {
 }
 
 impl Function {
-    // The numbers that the function answers, if it takes as many as are given.
+    // The numbers that the function answers, if it takes as many as are given. What is lent comes by itself: a struct with a `&mut` in it that is passed on gets
+    // no proof.
     pub fn answer(
         self,
         alloc: Global,

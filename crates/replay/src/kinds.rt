@@ -36,18 +36,18 @@ impl Kinds {
     {
         let row = match (self, given) {
             (Kinds::AbiVersion, []) => fc_abi_version().row(alloc),
-            (Kinds::BitsPerSymbol, [alphabet]) => fc_bits_per_symbol(*alphabet).row(alloc),
-            (Kinds::Contains, [alphabet, byte]) => fc_contains(*alphabet, *byte).row(alloc),
-            (Kinds::DisplayName, [alphabet]) => fc_display_name(*alphabet, out).row(alloc),
-            (Kinds::GuesserNew, [fold]) => fc_guesser_new(*fold).row(alloc),
-            (Kinds::GuesserUpdate, [mask, fold]) => {
-                fc_guesser_update(guesser(*mask, *fold), text).row(alloc)
+            (Kinds::BitsPerSymbol, &[alphabet]) => fc_bits_per_symbol(alphabet).row(alloc),
+            (Kinds::Contains, &[alphabet, byte]) => fc_contains(alphabet, byte).row(alloc),
+            (Kinds::DisplayName, &[alphabet]) => fc_display_name(alphabet, out).row(alloc),
+            (Kinds::GuesserNew, &[fold]) => fc_guesser_new(fold).row(alloc),
+            (Kinds::GuesserUpdate, &[mask, fold]) => {
+                fc_guesser_update(guesser(mask, fold), text).row(alloc)
             }
-            (Kinds::GuesserGuess, [mask, fold]) => {
-                fc_guesser_guess(guesser(*mask, *fold)).row(alloc)
+            (Kinds::GuesserGuess, &[mask, fold]) => {
+                fc_guesser_guess(guesser(mask, fold)).row(alloc)
             }
-            (Kinds::GuessAlphabet, [fold]) => fc_guess_alphabet(*fold, text).row(alloc),
-            (Kinds::LaterAlphabet, [one, other]) => fc_later_alphabet(*one, *other).row(alloc),
+            (Kinds::GuessAlphabet, &[fold]) => fc_guess_alphabet(fold, text).row(alloc),
+            (Kinds::LaterAlphabet, &[one, other]) => fc_later_alphabet(one, other).row(alloc),
             _ => return Err(LineError::NoCall),
         };
         Ok(row?)

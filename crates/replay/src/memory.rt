@@ -8,7 +8,8 @@ use std::alloc::Global;
 // As many bytes as are lent at most.
 const ROOM: usize = 320;
 
-// Memory of which the front is lent. What is not lent holds A5, so that a byte read behind the lent ones shows, and one written there too.
+// Memory of which the front is lent. What is not lent holds A5, so that a byte read behind the lent ones shows, and one written there too: a slice would not have
+// it.
 #[derive(PartialEq, Drop)]
 pub struct Memory {
     pub bytes: Vec<u8>,

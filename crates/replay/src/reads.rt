@@ -25,8 +25,8 @@ pub enum Reads {
 }
 
 // A number as a position.
-fn size(number: &u64) -> usize {
-    *number as usize
+fn size(number: u64) -> usize {
+    number as usize
 }
 
 impl Reads {
@@ -41,38 +41,38 @@ impl Reads {
         ensures { IfOk result (λ _. takes_reads self ≡ length given.now) }
     {
         let row = match (self, given) {
-            (Reads::SubstringAtOffset, [alphabet, offset, start, end]) => {
+            (Reads::SubstringAtOffset, &[alphabet, offset, start, end]) => {
                 let (offset, start, end) = (size(offset), size(start), size(end));
                 fc_decode_substring_from_bytes_at_offset(
-                    *alphabet, bytes, offset, start, end, out,
+                    alphabet, bytes, offset, start, end, out,
                 ).row(alloc)
             }
-            (Reads::Substring, [alphabet, start, end]) => {
-                fc_decode_substring_from_bytes(*alphabet, bytes, size(start), size(end), out).row(
+            (Reads::Substring, &[alphabet, start, end]) => {
+                fc_decode_substring_from_bytes(alphabet, bytes, size(start), size(end), out).row(
                     alloc,
                 )
             }
-            (Reads::String, [alphabet, len]) => {
-                fc_decode_string_from_bytes(*alphabet, bytes, size(len), out).row(alloc)
+            (Reads::String, &[alphabet, len]) => {
+                fc_decode_string_from_bytes(alphabet, bytes, size(len), out).row(alloc)
             }
-            (Reads::Covered, [alphabet, offset, start, end]) => {
+            (Reads::Covered, &[alphabet, offset, start, end]) => {
                 let (offset, start, end) = (size(offset), size(start), size(end));
-                fc_decode_covered(*alphabet, bytes, offset, start, end, out).row(alloc)
+                fc_decode_covered(alphabet, bytes, offset, start, end, out).row(alloc)
             }
-            (Reads::Rolling, [alphabet, offset, start, end]) => {
+            (Reads::Rolling, &[alphabet, offset, start, end]) => {
                 let (offset, start, end) = (size(offset), size(start), size(end));
-                fc_decode_rolling(*alphabet, bytes, offset, start, end, out).row(alloc)
+                fc_decode_rolling(alphabet, bytes, offset, start, end, out).row(alloc)
             }
-            (Reads::TwoBit, [offset, start, end]) => {
+            (Reads::TwoBit, &[offset, start, end]) => {
                 fc_decode_2bit(bytes, size(offset), size(start), size(end), out).row(alloc)
             }
-            (Reads::ThreeBit, [offset, start, end]) => {
+            (Reads::ThreeBit, &[offset, start, end]) => {
                 fc_decode_3bit(bytes, size(offset), size(start), size(end), out).row(alloc)
             }
-            (Reads::FourBit, [offset, start, end]) => {
+            (Reads::FourBit, &[offset, start, end]) => {
                 fc_decode_4bit(bytes, size(offset), size(start), size(end), out).row(alloc)
             }
-            (Reads::FiveBit, [offset, start, end]) => {
+            (Reads::FiveBit, &[offset, start, end]) => {
                 fc_decode_5bit(bytes, size(offset), size(start), size(end), out).row(alloc)
             }
             _ => return Err(LineError::NoCall),

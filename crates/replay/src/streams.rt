@@ -42,8 +42,8 @@ impl Streams {
         ensures { IfOk result (λ _. takes_streams self ≡ length given.now) }
     {
         let row = match (self, given) {
-            (Streams::New, [alphabet, skip, budget]) => {
-                fc_stream_new(*alphabet, *skip, *budget).row(alloc)
+            (Streams::New, &[alphabet, skip, budget]) => {
+                fc_stream_new(alphabet, skip, budget).row(alloc)
             }
             (Streams::Read, state) => fc_stream_read(stream(state)?, source, out).row(alloc),
             (Streams::End, state) => fc_stream_end(stream(state)?).row(alloc),
