@@ -9,10 +9,12 @@ use Rattle.alphabet.specs.Questions.{ask◌else◌then◌, accepted, by, number_
 use Rattle.alphabet.specs.Names.{number_of, known, kind_of}
 use Rattle.alphabet.specs.Guess.{guess_of}
 use Rattle.alphabet.proofs.Calls.{number_kind}
-use Rattle.packing.specs.declared.encoder.EncoderStarted.{EncoderStarted as Start}
+use Rattle.std.proofs.Common.{Result, Ok, Err}
+use Rattle.alphabet.specs.declared.refusal.Refusal.{Refusal}
+use Rattle.alphabet.specs.declared.guesser.AlphabetGuesser.{AlphabetGuesser}
+use Rattle.packing.specs.declared.encoder.SequenceEncoder.{SequenceEncoder}
 use Rattle.packing.specs.Encode.{fresh_encoder, start_encoder_at}
 use Rattle.packing.specs.Answers.{encoder_started_reply}
-use Rattle.fantailclock.specs.declared.guesses.State.{State}
 use Rattle.fantailclock.specs.declared.shapes.Guesser.{Guesser}
 use Rattle.fantailclock.specs.declared.shapes.Encoder.{Encoder}
 use Rattle.fantailclock.specs.declared.shapes.EncoderStarted.{EncoderStarted}
@@ -26,14 +28,14 @@ pub record AsBefore : Type 0 where
   pub guessed : (text : List ℕ) → guessed_told 0 text ≡ accepted (number_of (guess_of false text) ∷ [])
   -- a guesser's numbers, and an encoder's: what they stand for, and what is asked of them
   pub guesser : (g : Guesser) → g.fold ≡ 0
-      → guesses.state_of g ≡ (ask leb g.mask 255 else State.Refused 1 then State.Fits (record { acc = g.mask; fold = false }))
+      → guesses.state_of g ≡ (ask leb g.mask 255 else Err (by 1 []) then Ok (record { acc = g.mask; fold = false }))
   pub encoder : (e : Encoder) → e.fold ≡ 0 → (inside e).fold ≡ false
   pub fits : (e : Encoder) → e.fold ≡ 0 → fitting e ≡ (eqb e.has_bad 0 || (eqb e.has_bad 1 && leb e.bad_byte 255))
   -- an encoder's start echoes its alphabet, whether refused or not
   pub started : (n : ℕ) → encoder_started n 0 ≡ record { refusal = number_in (encoder_started_reply (start_encoder_at n false)); next = echoed n 0 }
 
-abbrev plain : Guesser → Bool → State
-plain g fits = ask fits else State.Refused 1 then State.Fits (record { acc = g.mask; fold = false })
+abbrev plain : Guesser → Bool → Result AlphabetGuesser Refusal
+plain g fits = ask fits else Err (by 1 []) then Ok (record { acc = g.mask; fold = false })
 
 stands : (g : Guesser) → g.fold ≡ 0 → guesses.state_of g ≡ plain g (leb g.mask 255)
 unfolding guesses.state_of guesses.inside
@@ -43,10 +45,10 @@ stands g e = rw e (go (leb g.mask 255))
     go true = refl
     go false = refl
 
-abbrev answer : ℕ → Bool → Start
-answer n known = ask known else Start.Refused (by 8 []) then Start.Fresh (fresh_encoder false (kind_of n))
+abbrev answer : ℕ → Bool → Result SequenceEncoder Refusal
+answer n known = ask known else Err (by 8 []) then Ok (fresh_encoder false (kind_of n))
 
-abbrev echoing : ℕ → Start → EncoderStarted
+abbrev echoing : ℕ → Result SequenceEncoder Refusal → EncoderStarted
 echoing n x = record { refusal = number_in (encoder_started_reply x); next = echoed n 0 }
 
 starts : (n : ℕ) → encoder_started n 0 ≡ echoing n (start_encoder_at n false)

@@ -1,12 +1,12 @@
 -- The questions of each call in their order. States document 01, "The questions, and the number when the answer is no", and request A7's question: a number comes
 -- out only for its own "no". A call's number is that of the first of its questions that is answered no, and 0 where none is.
-use Rattle.std.specs.Prelude.{ℕ, ◌+◌, ◌-◌, ◌*◌, ◌/◌, Bool, true, false, cond, ◌&&◌, List, [], ◌∷◌, leb, ltb, eqb, length}
+use Rattle.std.specs.Prelude.{ℕ, ◌+◌, ◌-◌, ◌*◌, ◌/◌, Bool, true, false, cond, ◌&&◌, List, [], ◌∷◌, leb, ltb, eqb, length, Option, Some, None}
 use Rattle.bits.specs.Packing.{bytes_for}
 use Rattle.alphabet.specs.Questions.{in_bounds}
 use Rattle.alphabet.specs.Names.{known, numbered, numbered_by}
 use Rattle.alphabet.specs.Guess.{sound_guesser}
 use Rattle.alphabet.specs.declared.guesser.AlphabetGuesser.{AlphabetGuesser}
-use Rattle.packing.specs.declared.first.First.{First}
+use Rattle.packing.specs.declared.stranger.Stranger.{Stranger}
 use Rattle.packing.specs.declared.encoder.SequenceEncoder.{SequenceEncoder}
 use Rattle.packing.specs.Encode.{first_from, sound_encoder, piece_bit_count}
 use Rattle.windows.specs.Window.{covers, all_assigned}
@@ -27,9 +27,9 @@ first_no [] = 0
 first_no ((number unless answer) ∷ others) = cond answer (first_no others) number
 
 -- whether every byte was a member
-abbrev pub clean : First → Bool
-clean First.Nothing = true
-clean (First.At position byte) = false
+abbrev pub clean : Option Stranger → Bool
+clean None = true
+clean (Some first) = false
 
 -- 4, of the guesser's calls
 unfoldable pub asked_of_guesser : AlphabetGuesser → List Asked

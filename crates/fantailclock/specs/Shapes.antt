@@ -1,6 +1,7 @@
 -- Replies as the numbers that pass the boundary: the refusal, 0 for an accepted call, then the values, 0 on a refusal.
-use Rattle.std.specs.Prelude.{ℕ, Bool, not, eqb}
-use Rattle.alphabet.specs.Questions.{Reply, number_in, value_in, detail_in}
+use Rattle.std.specs.Prelude.{ℕ, Bool, not, eqb, [], Result, Ok, Err}
+use Rattle.alphabet.specs.Questions.{Reply, accepted, refusal_reply, number_in, value_in, detail_in}
+use Rattle.alphabet.specs.declared.refusal.Refusal.{Refusal}
 use Rattle.fantailclock.specs.declared.shapes.Number.{Number}
 use Rattle.fantailclock.specs.declared.shapes.Count.{Count}
 use Rattle.fantailclock.specs.declared.shapes.Covered.{Covered}
@@ -33,6 +34,11 @@ details reply = record { first = detail_in 0 reply; second = detail_in 1 reply; 
 abbrev pub packed : Reply → Packed
 packed reply =
     record { refusal = number_in reply; count = value_in 0 reply; position = detail_in 0 reply; byte = detail_in 1 reply; bad_count = detail_in 2 reply }
+
+-- an end call's answer, or a refusal
+abbrev pub end_reply : Result (Unit {0}) Refusal → Reply
+end_reply (Ok done) = accepted []
+end_reply (Err q) = refusal_reply q
 
 -- the bases outstanding
 abbrev pub ended : Reply → Ended

@@ -4,45 +4,11 @@ ghost use Rattle.windows.specs.Window.{read_at, read_memory, covered_at, covered
 ghost use Rattle.windows.specs.Answers.{read_reply};
 ghost use Rattle.fantailclock.specs.Shapes.{count, covered};
 
-use crate::shapes::{Count, Covered, details_of, number_of};
+use crate::shapes::{Count, Covered};
 use windows::{
-    Read, decode_2bit, decode_3bit, decode_4bit, decode_5bit, decode_covered, decode_rolling,
+    decode_2bit, decode_3bit, decode_4bit, decode_5bit, decode_covered, decode_rolling,
     decode_string_from_bytes, decode_substring_from_bytes, decode_substring_from_bytes_at_offset,
 };
-
-// A read's answer as numbers.
-fn count_of(read: Read) -> Count
-    ensures { result ≡ count (read_reply read) }
-{
-    match read {
-        Read::Bases(bases) => Count {
-            refusal: 0,
-            count: bases as u64,
-        },
-        Read::Refused(refusal) => Count {
-            refusal: number_of(refusal),
-            count: 0,
-        },
-    }
-}
-
-// The same of a covered read, with the base that a refusal by 18 tells.
-fn covered_of(read: Read) -> Covered
-    ensures { result ≡ covered (read_reply read) }
-{
-    match read {
-        Read::Bases(bases) => Covered {
-            refusal: 0,
-            count: bases as u64,
-            value: 0,
-        },
-        Read::Refused(refusal) => Covered {
-            refusal: number_of(refusal),
-            count: 0,
-            value: details_of(refusal).first,
-        },
-    }
-}
 
 // The bases from `start` to `end` of the file of which `bytes` are the bytes from `byte_offset` on; other bytes read as zero.
 pub fn fc_decode_substring_from_bytes_at_offset(
@@ -56,7 +22,14 @@ pub fn fc_decode_substring_from_bytes_at_offset(
     ensures value { result ≡ count (read_reply (read_at alphabet byte_offset start end (length out.old))) }
     ensures memory { out.new ≡ read_memory alphabet bytes.now byte_offset start end out.old }
 {
-    count_of(decode_substring_from_bytes_at_offset(alphabet, bytes, byte_offset, start, end, out))
+    Count::from(decode_substring_from_bytes_at_offset(
+        alphabet,
+        bytes,
+        byte_offset,
+        start,
+        end,
+        out,
+    ))
 }
 
 // The same where the lent bytes are the file's first.
@@ -70,7 +43,7 @@ pub fn fc_decode_substring_from_bytes(
     ensures value { result ≡ count (read_reply (read_at alphabet 0 start end (length out.old))) }
     ensures memory { out.new ≡ read_memory alphabet bytes.now 0 start end out.old }
 {
-    count_of(decode_substring_from_bytes(alphabet, bytes, start, end, out))
+    Count::from(decode_substring_from_bytes(alphabet, bytes, start, end, out))
 }
 
 // The first `seq_len` bases.
@@ -83,7 +56,7 @@ pub fn fc_decode_string_from_bytes(
     ensures value { result ≡ count (read_reply (read_at alphabet 0 0 seq_len (length out.old))) }
     ensures memory { out.new ≡ read_memory alphabet bytes.now 0 0 seq_len out.old }
 {
-    count_of(decode_string_from_bytes(alphabet, bytes, seq_len, out))
+    Count::from(decode_string_from_bytes(alphabet, bytes, seq_len, out))
 }
 
 // The covered read: refused by 3 where a byte of the window's range is not lent, and by 18 with the first base whose code is no symbol's.
@@ -98,7 +71,7 @@ pub fn fc_decode_covered(
     ensures value { result ≡ covered (read_reply (covered_at alphabet bytes.now byte_offset start end (length out.old))) }
     ensures memory { out.new ≡ covered_memory alphabet bytes.now byte_offset start end out.old }
 {
-    covered_of(decode_covered(alphabet, bytes, byte_offset, start, end, out))
+    Covered::from(decode_covered(alphabet, bytes, byte_offset, start, end, out))
 }
 
 // The rolling engine.
@@ -113,7 +86,7 @@ pub fn fc_decode_rolling(
     ensures value { result ≡ count (read_reply (read_at alphabet byte_offset start end (length out.old))) }
     ensures memory { out.new ≡ read_memory alphabet bytes.now byte_offset start end out.old }
 {
-    count_of(decode_rolling(alphabet, bytes, byte_offset, start, end, out))
+    Count::from(decode_rolling(alphabet, bytes, byte_offset, start, end, out))
 }
 
 // The engine of Dna2bit.
@@ -127,7 +100,7 @@ pub fn fc_decode_2bit(
     ensures value { result ≡ count (read_reply (read_at 0 byte_offset start end (length out.old))) }
     ensures memory { out.new ≡ read_memory 0 bytes.now byte_offset start end out.old }
 {
-    count_of(decode_2bit(bytes, byte_offset, start, end, out))
+    Count::from(decode_2bit(bytes, byte_offset, start, end, out))
 }
 
 // The engine of Dna3bit.
@@ -141,7 +114,7 @@ pub fn fc_decode_3bit(
     ensures value { result ≡ count (read_reply (read_at 1 byte_offset start end (length out.old))) }
     ensures memory { out.new ≡ read_memory 1 bytes.now byte_offset start end out.old }
 {
-    count_of(decode_3bit(bytes, byte_offset, start, end, out))
+    Count::from(decode_3bit(bytes, byte_offset, start, end, out))
 }
 
 // The engine of DnaIupac.
@@ -155,7 +128,7 @@ pub fn fc_decode_4bit(
     ensures value { result ≡ count (read_reply (read_at 2 byte_offset start end (length out.old))) }
     ensures memory { out.new ≡ read_memory 2 bytes.now byte_offset start end out.old }
 {
-    count_of(decode_4bit(bytes, byte_offset, start, end, out))
+    Count::from(decode_4bit(bytes, byte_offset, start, end, out))
 }
 
 // The engine of Protein.
@@ -169,5 +142,5 @@ pub fn fc_decode_5bit(
     ensures value { result ≡ count (read_reply (read_at 3 byte_offset start end (length out.old))) }
     ensures memory { out.new ≡ read_memory 3 bytes.now byte_offset start end out.old }
 {
-    count_of(decode_5bit(bytes, byte_offset, start, end, out))
+    Count::from(decode_5bit(bytes, byte_offset, start, end, out))
 }

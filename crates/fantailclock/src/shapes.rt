@@ -2,20 +2,23 @@
 
 ghost use Rattle.std.specs.Prelude.{◌≡◌};
 ghost use Rattle.alphabet.specs.Questions.{refusal_reply, number_in};
-ghost use Rattle.alphabet.specs.Answers.{fold_number};
-ghost use Rattle.fantailclock.specs.Shapes.{details, chosen};
+ghost use Rattle.alphabet.specs.Answers.{count_reply};
+ghost use Rattle.packing.specs.Answers.{range_reply};
+ghost use Rattle.streaming.specs.Answers.{ended_reply};
+ghost use Rattle.fantailclock.specs.Shapes.{number, count, covered, range, packed, ended, end_reply, details};
 
 use alphabet::Refusal;
+use packing::ByteRange;
 
 #[repr(C)]
-#[derive(Clone, Copy)]
+#[derive(Clone, Copy, Debug, PartialEq, Eq)]
 pub struct Number {
     pub refusal: u64,
     pub value: u64,
 }
 
 #[repr(C)]
-#[derive(Clone, Copy)]
+#[derive(Clone, Copy, Debug, PartialEq, Eq)]
 pub struct Count {
     pub refusal: u64,
     pub count: u64,
@@ -23,7 +26,7 @@ pub struct Count {
 
 // `value` is the base whose code is no symbol's where the refusal is 18, and else 0.
 #[repr(C)]
-#[derive(Clone, Copy)]
+#[derive(Clone, Copy, Debug, PartialEq, Eq)]
 pub struct Covered {
     pub refusal: u64,
     pub count: u64,
@@ -32,21 +35,21 @@ pub struct Covered {
 
 // A guesser's state; `fold` is 0 or 1.
 #[repr(C)]
-#[derive(Clone, Copy)]
+#[derive(Clone, Copy, Debug, PartialEq, Eq)]
 pub struct Guesser {
     pub mask: u64,
     pub fold: u64,
 }
 
 #[repr(C)]
-#[derive(Clone, Copy)]
+#[derive(Clone, Copy, Debug, PartialEq, Eq)]
 pub struct Guessing {
     pub refusal: u64,
     pub next: Guesser,
 }
 
 #[repr(C)]
-#[derive(Clone, Copy)]
+#[derive(Clone, Copy, Debug, PartialEq, Eq)]
 pub struct Range {
     pub refusal: u64,
     pub start: u64,
@@ -54,7 +57,7 @@ pub struct Range {
 }
 
 #[repr(C)]
-#[derive(Clone, Copy)]
+#[derive(Clone, Copy, Debug, PartialEq, Eq)]
 pub struct Packed {
     pub refusal: u64,
     pub count: u64,
@@ -65,7 +68,7 @@ pub struct Packed {
 
 // An encoder's state; `bad_position` and `bad_byte` are of no account where `has_bad` is 0, `bad_count` is 0 there, and `fold` is 0 or 1.
 #[repr(C)]
-#[derive(Clone, Copy)]
+#[derive(Clone, Copy, Debug, PartialEq, Eq)]
 pub struct Encoder {
     pub alphabet: u64,
     pub seen: u64,
@@ -79,14 +82,14 @@ pub struct Encoder {
 }
 
 #[repr(C)]
-#[derive(Clone, Copy)]
+#[derive(Clone, Copy, Debug, PartialEq, Eq)]
 pub struct EncoderStarted {
     pub refusal: u64,
     pub next: Encoder,
 }
 
 #[repr(C)]
-#[derive(Clone, Copy)]
+#[derive(Clone, Copy, Debug, PartialEq, Eq)]
 pub struct Updated {
     pub refusal: u64,
     pub count: u64,
@@ -95,7 +98,7 @@ pub struct Updated {
 
 // A stream's state; `skip` is 0 once it is done.
 #[repr(C)]
-#[derive(Clone, Copy)]
+#[derive(Clone, Copy, Debug, PartialEq, Eq)]
 pub struct Stream {
     pub alphabet: u64,
     pub skip: u64,
@@ -105,7 +108,7 @@ pub struct Stream {
 }
 
 #[repr(C)]
-#[derive(Clone, Copy)]
+#[derive(Clone, Copy, Debug, PartialEq, Eq)]
 pub struct StreamStarted {
     pub refusal: u64,
     pub next: Stream,
@@ -113,7 +116,7 @@ pub struct StreamStarted {
 
 // `status` is 1 Hungry, 2 Done, 3 Full, and 0 on a refusal.
 #[repr(C)]
-#[derive(Clone, Copy)]
+#[derive(Clone, Copy, Debug, PartialEq, Eq)]
 pub struct Streamed {
     pub refusal: u64,
     pub taken: u64,
@@ -124,7 +127,7 @@ pub struct Streamed {
 
 // `outstanding` is 0 unless the refusal is 7.
 #[repr(C)]
-#[derive(Clone, Copy)]
+#[derive(Clone, Copy, Debug, PartialEq, Eq)]
 pub struct Ended {
     pub refusal: u64,
     pub outstanding: u64,
@@ -134,69 +137,150 @@ pub struct Ended {
 pub fn number_of(refusal: Refusal) -> u64
     ensures { result ≡ number_in (refusal_reply refusal) }
 {
-    refusal.number() as u64
-}
-
-// The choice to fold that an argument stands for: any number but 0 folds.
-pub fn chosen_by(fold: u64) -> bool
-    ensures { result ≡ chosen fold }
-{
-    fold != 0
-}
-
-// The number of a choice in a state: 1 to fold, 0 not to.
-pub fn number_of_fold(fold: bool) -> u64
-    ensures { result ≡ fold_number fold }
-{
-    if fold {
-        return 1;
-    }
-    0
+    u64::from(refusal.number())
 }
 
 // What a refusal tells beside its number: the first non-member's position and byte and how many there are, or the bases outstanding, or the base whose code is
 // no symbol's; zeros where it tells nothing.
-#[derive(Clone, Copy)]
+#[derive(Clone, Copy, Debug, PartialEq, Eq)]
 pub struct Details {
     pub first: u64,
     pub second: u64,
     pub third: u64,
 }
 
-pub fn details_of(refusal: Refusal) -> Details
-    ensures { result ≡ details (refusal_reply refusal) }
-{
-    let none = Details {
-        first: 0,
-        second: 0,
-        third: 0,
-    };
-    match refusal {
-        Refusal::Unsound => none,
-        Refusal::TooFar => none,
-        Refusal::Uncovered => none,
-        Refusal::ShortMemory => none,
-        Refusal::NonMember {
-            position,
-            byte,
-            count,
-        } => Details {
-            first: position as u64,
-            second: byte as u64,
-            third: count as u64,
-        },
-        Refusal::BadSkip => none,
-        Refusal::Outstanding(bases) => Details {
-            first: bases,
-            second: 0,
-            third: 0,
-        },
-        Refusal::NoAlphabet => none,
-        Refusal::TooWide => none,
-        Refusal::NoSymbol(base) => Details {
-            first: base as u64,
-            second: 0,
-            third: 0,
-        },
+impl From<Refusal> for Details {
+    ghost from_gives = { λ refusal told. told ≡ details (refusal_reply refusal) };
+
+    fn from(refusal: Refusal) -> Details {
+        let (first, second, third) = match refusal {
+            Refusal::NonMember {
+                position,
+                byte,
+                count,
+            } => (position as u64, u64::from(byte), count as u64),
+            Refusal::Outstanding(bases) => (bases, 0, 0),
+            Refusal::NoSymbol(base) => (base as u64, 0, 0),
+            _ => (0, 0, 0),
+        };
+        Details {
+            first,
+            second,
+            third,
+        }
+    }
+}
+
+impl From<Result<u64, Refusal>> for Number {
+    ghost from_gives = { λ answer told. told ≡ number (count_reply answer) };
+
+    fn from(answer: Result<u64, Refusal>) -> Number {
+        match answer {
+            Ok(value) => Number { refusal: 0, value },
+            Err(refusal) => Number {
+                refusal: number_of(refusal),
+                value: 0,
+            },
+        }
+    }
+}
+
+impl From<Result<usize, Refusal>> for Count {
+    ghost from_gives = { λ answer told. told ≡ count (count_reply answer) };
+
+    fn from(answer: Result<usize, Refusal>) -> Count {
+        match answer {
+            Ok(count) => Count {
+                refusal: 0,
+                count: count as u64,
+            },
+            Err(refusal) => Count {
+                refusal: number_of(refusal),
+                count: 0,
+            },
+        }
+    }
+}
+
+// The base that a refusal by 18 tells comes with it.
+impl From<Result<usize, Refusal>> for Covered {
+    ghost from_gives = { λ answer told. told ≡ covered (count_reply answer) };
+
+    fn from(answer: Result<usize, Refusal>) -> Covered {
+        match answer {
+            Ok(count) => Covered {
+                refusal: 0,
+                count: count as u64,
+                value: 0,
+            },
+            Err(refusal) => Covered {
+                refusal: number_of(refusal),
+                count: 0,
+                value: Details::from(refusal).first,
+            },
+        }
+    }
+}
+
+impl From<Result<usize, Refusal>> for Packed {
+    ghost from_gives = { λ answer told. told ≡ packed (count_reply answer) };
+
+    fn from(answer: Result<usize, Refusal>) -> Packed {
+        match answer {
+            Ok(count) => Packed {
+                refusal: 0,
+                count: count as u64,
+                position: 0,
+                byte: 0,
+                bad_count: 0,
+            },
+            Err(refusal) => {
+                let details = Details::from(refusal);
+                Packed {
+                    refusal: number_of(refusal),
+                    count: 0,
+                    position: details.first,
+                    byte: details.second,
+                    bad_count: details.third,
+                }
+            }
+        }
+    }
+}
+
+impl From<Result<ByteRange, Refusal>> for Range {
+    ghost from_gives = { λ answer told. told ≡ range (range_reply answer) };
+
+    fn from(answer: Result<ByteRange, Refusal>) -> Range {
+        match answer {
+            Ok(bytes) => Range {
+                refusal: 0,
+                start: bytes.from as u64,
+                end: bytes.to as u64,
+            },
+            Err(refusal) => Range {
+                refusal: number_of(refusal),
+                start: 0,
+                end: 0,
+            },
+        }
+    }
+}
+
+// The bases outstanding come with a refusal by 7.
+impl From<Result<(), Refusal>> for Ended {
+    ghost from_gives = { λ answer told. told ≡ ended (end_reply answer) };
+
+    fn from(answer: Result<(), Refusal>) -> Ended {
+        match answer {
+            Ok(()) => Ended {
+                refusal: 0,
+                outstanding: 0,
+            },
+            Err(refusal) => Ended {
+                refusal: number_of(refusal),
+                outstanding: Details::from(refusal).first,
+            },
+        }
     }
 }

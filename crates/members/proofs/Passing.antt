@@ -120,6 +120,14 @@ module _ (A : Coding) (text : List ℕ) where
   pub passed_behind : (i r : ℕ) → Passed A text i → Passed A (take (length text - i) (drop i text)) r → Passed A text (i + r)
   passed_behind i r p more = let part = passed_part A text i r p.within more in passed_more i r p part.0 part.1
 
+  -- block i of 64 bytes has members alone
+  block_at : (blocks : List (List ℕ)) → blocks ≡ first_chunks 64 (length text / 64) text → (i : ℕ) → i < length text / 64 → all_members_of A (get_or blocks i []) ≡ true
+      → Members A text (i * 64) 64
+  block_at blocks e i l all =
+      let long : 64 ≡ i * 64 + 64 - i * 64 = omega arith in
+      let same = ap (λ (bs : List (List ℕ)). get_or bs i []) e ∙ chunk_at 64 (length text / 64) text i l ∙ ap (λ (n : ℕ). take n (drop (i * 64) text)) long in
+      all_part A text (i * 64) 64 (i * 64 + 64) refl (omega (arith, l)) (ap (all_members_of A) (sym same) ∙ all)
+
   -- of two halves, h blocks each, as many blocks of 64 bytes
   pub record Halves (h k : ℕ) : Type 0 where
     pub first : Passed A text (k * 64)
@@ -129,17 +137,15 @@ module _ (A : Coding) (text : List ℕ) where
   halves_none h = record { first = passed_none; second = record { each = λ j l. absurd (not-suc-le-zero l) } }
 
   -- a block more of each
-  pub halves_more : (h k : ℕ) → h ≡ length text / 128 → k < h → all_members_of A (take (k * 64 + 64 - k * 64) (drop (k * 64) text)) ≡ true
-      → all_members_of A (take ((h + k) * 64 + 64 - (h + k) * 64) (drop ((h + k) * 64) text)) ≡ true → Halves h k → Halves h (k + 1)
-  halves_more h k q l here there o =
-      let within : (h + k) * 64 + 64 ≤ length text = omega (arith, q) in
+  pub halves_more : (h k : ℕ) (blocks : List (List ℕ)) → blocks ≡ first_chunks 64 (length text / 64) text → h ≡ length text / 128 → k < h
+      → all_members_of A (get_or blocks k []) ≡ true → all_members_of A (get_or blocks (h + k) []) ≡ true → Halves h k → Halves h (k + 1)
+  halves_more h k blocks e q l here there o =
       let one : k * 64 + 64 ≡ (k + 1) * 64 = omega arith in
       let other : (h + k) * 64 ≡ h * 64 + k * 64 = omega arith in
-      let next = all_part A text (k * 64) 64 (k * 64 + 64) refl (omega (arith, within)) here in
-      let far = all_part A text ((h + k) * 64) 64 ((h + k) * 64 + 64) refl within there in
       record {
-        first = subst (Passed A text) one (passed_more (k * 64) 64 o.first (omega (arith, within)) next);
-        second = subst (Members A text (h * 64)) one (members_more (h * 64) (k * 64) 64 o.second (subst (λ (i : ℕ). Members A text i 64) other far));
+        first = subst (Passed A text) one (passed_more (k * 64) 64 o.first (omega (arith, q)) (block_at blocks e k (omega (arith, q)) here));
+        second = subst (Members A text (h * 64)) one
+            (members_more (h * 64) (k * 64) 64 o.second (subst (λ (i : ℕ). Members A text i 64) other (block_at blocks e (h + k) (omega (arith, q)) there)));
       }
 
   pub halves_all : (h k : ℕ) → h ≡ length text / 128 → h ≤ k → Halves h k → Passed A text (h * 128)

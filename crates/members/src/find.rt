@@ -18,6 +18,14 @@ pub fn all_members(alphabet: TextAlphabet, text: &[u8]) -> bool
     all
 }
 
+// The same of a block. It stays a function by itself, which the compiler makes for each length that is asked about, without a loop.
+fn are_members<const N: usize>(alphabet: TextAlphabet, block: &[u8; N]) -> bool
+    requires { N ≤ 64 }
+    ensures { result ≡ all_members_of (coding_of alphabet) block.now }
+{
+    all_members(alphabet, block)
+}
+
 // Passes blocks of members, N bytes each, that a text begins with, and tells how many bytes they are.
 fn pass<const N: usize>(alphabet: TextAlphabet, text: &[u8]) -> usize
     requires { (0 < N) × (N ≤ 64) }
@@ -25,7 +33,7 @@ fn pass<const N: usize>(alphabet: TextAlphabet, text: &[u8]) -> usize
 {
     let (blocks, _) = text.as_chunks::<N>();
     for (k, block) in blocks.iter().enumerate() {
-        if !all_members(alphabet, block) {
+        if !are_members(alphabet, block) {
             return k * N;
         }
     }
@@ -40,14 +48,13 @@ fn pass_halves(alphabet: TextAlphabet, text: &[u8]) -> usize
     if text.len() < 16384 {
         return 0;
     }
+    let (blocks, _) = text.as_chunks::<64>();
     let half = text.len() / 128;
     for k in 0..half {
-        let i = k * 64;
-        let j = (half + k) * 64;
-        let here = all_members(alphabet, &text[i..i + 64]);
-        let there = all_members(alphabet, &text[j..j + 64]);
+        let here = are_members(alphabet, &blocks[k]);
+        let there = are_members(alphabet, &blocks[half + k]);
         if !(here & there) {
-            return i;
+            return k * 64;
         }
     }
     half * 128
@@ -71,7 +78,7 @@ fn pass_last(alphabet: TextAlphabet, text: &[u8], passed: usize) -> usize
         return passed;
     }
     let all = match text.last_chunk::<16>() {
-        Some(last) => all_members(alphabet, last),
+        Some(last) => are_members(alphabet, last),
         None => all_members(alphabet, &text[passed..]),
     };
     if all { text.len() } else { passed }

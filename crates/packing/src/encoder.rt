@@ -124,12 +124,11 @@ impl SequenceEncoder {
         let b = self.alphabet.bits_per_symbol();
         let bits = usize::from(self.bits);
         SequenceEncoder {
-            alphabet: self.alphabet,
             seen: self.seen + piece.len(),
             bits: ((bits + piece.len() * b) % 8) as u8,
             pending: left_over(table, b, bits, self.pending, piece),
             bad: both_bad(self.bad, found),
-            fold: self.fold,
+            ..self
         }
     }
 
@@ -152,8 +151,10 @@ impl SequenceEncoder {
         let mut entries = [ones(kind); 256];
         lay_digits(alphabet, &mut entries);
         let found = bad_from(alphabet, self.seen, piece);
-        let next = self.next(&entries, piece, found);
-        Ok(Updated { count, next })
+        Ok(Updated {
+            count,
+            next: self.next(&entries, piece, found),
+        })
     }
 
     // Packs a piece behind what pends, and writes the bytes that it completes at the front of `out`. It asks as `ask` does, by the same functions; the table comes before

@@ -1,4 +1,5 @@
 -- Demand 3, what it says of encoders, is proved: calls that the contracts allow run as the definitions do, and these are told by the tally.
+use Rattle.std.proofs.Common.{Result, Ok, Err}
 use mathlib.Core.Path.{◌≡◌, refl, sym, ap, ap₂, ◌∙◌, subst}
 use mathlib.Core.Bool.{Bool, true, false}
 use mathlib.Core.List.{List, [], ◌∷◌}
@@ -11,10 +12,7 @@ use Rattle.alphabet.specs.Names.{known, kind_of}
 use Rattle.packing.specs.Answers.{updated_reply, finalized_reply}
 use Rattle.packing.specs.Encode.{update_memory, finalize_memory, fresh_encoder, start_encoder_at, encode_at, encode_memory}
 use Rattle.packing.specs.declared.encoder.SequenceEncoder.{SequenceEncoder}
-use Rattle.packing.specs.declared.encoder.EncoderStarted.{EncoderStarted}
 use Rattle.packing.specs.declared.encoder.Updated.{Updated}
-use Rattle.packing.specs.declared.encoder.Finalized.{Finalized}
-use Rattle.packing.specs.declared.sequence.Encoded.{Encoded}
 use Rattle.record.specs.Calls.{Outcome, written, accepted_text, finished}
 use Rattle.record.specs.Runs.{next_encoder, unless_final, run}
 use Rattle.record.specs.Texts.{Packed}
@@ -23,6 +21,7 @@ use Rattle.record.specs.EncoderLists.{CodeCall, updates, finalizes, Ends, Follow
 use Rattle.record.specs.Record.{alphabet_for, fold_for, text_for, before, afterwards}
 use Rattle.record.proofs.Whole.{fresh-packs}
 use Rattle.record.proofs.AtOnce.{encode-packed, encode-accepted}
+use Rattle.alphabet.specs.declared.refusal.Refused.{Refused}
 
 -- ---- calls that follow each other run as the definitions do
 
@@ -40,19 +39,19 @@ code-run s (updates c ∷ cs) f = step s f.0 (code-run (next_encoder c.result) c
         rw (← e)
         (ap₂ (λ (m : List ℕ) (os : List Outcome). record { reply = updated_reply c.result; memory = m } ∷ os) c.met.1 ih ∙ ap told c.met.0)
       where
-        told : Updated → List Outcome
+        told : Result Updated (Refused SequenceEncoder) → List Outcome
         told r =
             let (self, (piece, (out, _))) = c.args in
             record { reply = updated_reply r; memory = update_memory self piece.now out.now } ∷ run (next_encoder r) (calls_of cs)
 code-run s (finalizes c ∷ cs) f = step s f.0 (go c.result (λ next. code-run next cs) f.1)
   where
     go :
-        (r : Finalized) →
+        (r : Result ℕ (Refused SequenceEncoder)) →
         ((next : SequenceEncoder) → Follows next cs → outcomes_of cs ≡ run next (calls_of cs)) →
         unless_final r (Ends cs) (λ next. Follows next cs) →
         outcomes_of cs ≡ unless_final r [] (λ next. run next (calls_of cs))
-    go (Finalized.Wrote count) ih e = ends_none cs e
-    go (Finalized.Refused q next) ih f = ih next f
+    go (Ok count) ih e = ends_none cs e
+    go (Err e) ih f = ih e.state f
 
     step :
         (s : SequenceEncoder) →
@@ -63,19 +62,19 @@ code-run s (finalizes c ∷ cs) f = step s f.0 (go c.result (λ next. code-run n
         rw (← e)
         (ap₂ (λ (m : List ℕ) (os : List Outcome). record { reply = finalized_reply c.result; memory = m } ∷ os) c.met.1 ih ∙ ap told c.met.0)
       where
-        told : Finalized → List Outcome
+        told : Result ℕ (Refused SequenceEncoder) → List Outcome
         told r =
             let (self, (out, _)) = c.args in
             record { reply = finalized_reply r; memory = finalize_memory self out.now } ∷ unless_final r [] (λ next. run next (calls_of cs))
 
 -- an accepted `new` was handed a known number and returned a fresh encoder of its kind, with the choice
-started-fresh : (n : ℕ) (fold : Bool) (s : SequenceEncoder) → start_encoder_at n fold ≡ EncoderStarted.Fresh s → (known n ≡ true) × (fresh_encoder fold (kind_of n) ≡ s)
+started-fresh : (n : ℕ) (fold : Bool) (s : SequenceEncoder) → start_encoder_at n fold ≡ Ok s → (known n ≡ true) × (fresh_encoder fold (kind_of n) ≡ s)
 unfolding start_encoder_at
 started-fresh n fold s e = go (known n) e
   where
     go :
         (b : Bool) →
-        (ask b else EncoderStarted.Refused (by 8 []) then EncoderStarted.Fresh (fresh_encoder fold (kind_of n))) ≡ EncoderStarted.Fresh s →
+        (ask b else Err (by 8 []) then Ok (fresh_encoder fold (kind_of n))) ≡ Ok s →
         (b ≡ true) × (fresh_encoder fold (kind_of n) ≡ s)
     go true q = (refl, cc)
     go false q = let z : ◌≡◌ {A = ℕ} 0 1 = cc in absurd (omega arith)
@@ -103,14 +102,14 @@ pub once-packed :
     fold_for e ≡ fold →
     text_for e ≡ text →
     length packed ≤ length (before e) →
-    (e.result ≡ Encoded.Wrote (length packed)) × (afterwards e ≡ front packed (before e))
+    (e.result ≡ Ok (length packed)) × (afterwards e ≡ front packed (before e))
 once-packed e alphabet fold text packed p a f t room =
     let one = encode-packed alphabet fold text packed (before e) p room in (
       e.met.0 ∙ (λ i. encode_at (a i) (f i) (t i) (length (before e))) ∙ one.0,
       e.met.1 ∙ (λ i. encode_memory (a i) (f i) (t i) (before e)) ∙ one.1,
     )
 
-pub once-accepted : (e : EncodeCall) (count : ℕ) → e.result ≡ Encoded.Wrote count → Packed (alphabet_for e) (fold_for e) (text_for e) (take count (afterwards e))
+pub once-accepted : (e : EncodeCall) (count : ℕ) → e.result ≡ Ok count → Packed (alphabet_for e) (fold_for e) (text_for e) (take count (afterwards e))
 once-accepted e count r =
     subst (λ (m : List ℕ). Packed (alphabet_for e) (fold_for e) (text_for e) (take count m)) (sym e.met.1)
     (encode-accepted (alphabet_for e) (fold_for e) (text_for e) (before e) count (sym e.met.0 ∙ r))

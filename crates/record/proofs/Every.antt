@@ -1,6 +1,7 @@
 -- The claim leaves no list out: whatever pieces and memory a list of calls names, for each known alphabet number and either choice to fold there is a list
 -- that the contracts allow and in which these calls are made, those behind an accepted `finalize` excepted; and it is a finished one wherever the definitions
 -- accept a `finalize`. That the code meets its contracts is proved with the functions, not here.
+use Rattle.std.proofs.Common.{Result, Ok, Err}
 use mathlib.Core.Path.{◌≡◌, refl, sym, ap, ap₂, ◌∙◌}
 use mathlib.Core.Bool.{Bool, true, cond}
 use mathlib.Core.List.{List, [], ◌∷◌, ◌++◌}
@@ -11,13 +12,13 @@ use Rattle.alphabet.specs.Names.{known, kind_of}
 use Rattle.packing.specs.Answers.{updated_reply, finalized_reply}
 use Rattle.packing.specs.Encode.{fresh_encoder, start_encoder_at, update_at, update_memory, finalize_at, finalize_memory}
 use Rattle.packing.specs.declared.encoder.SequenceEncoder.{SequenceEncoder}
-use Rattle.packing.specs.declared.encoder.EncoderStarted.{EncoderStarted}
-use Rattle.packing.specs.declared.encoder.Finalized.{Finalized}
 use Rattle.record.specs.Calls.{Call, update, finalize, Outcome, is_accepted, accepted_text, finished}
 use Rattle.record.specs.Runs.{next_encoder, unless_final, run}
 use Rattle.record.specs.Made.{NewCall, UpdateCall, FinalizeCall}
 use Rattle.record.specs.EncoderLists.{CodeCall, updates, finalizes, Ends, Follows, calls_of, outcomes_of, EncoderList, alphabet_in, fold_in, Finished, text_in}
 use Rattle.record.proofs.Whole.{accepted_nil}
+use Rattle.alphabet.specs.declared.refusal.Refused.{Refused}
+use Rattle.alphabet.specs.Refusing.{◌keeping◌}
 
 -- ---- a call for any state, piece and memory; of lifetimes and places in memory the contracts say nothing
 
@@ -60,10 +61,10 @@ made_follows s [] = tt
 made_follows s (update piece memory ∷ cs) = (refl, made_follows (next_encoder (update_at s piece (length memory))) cs)
 made_follows s (finalize memory ∷ cs) = (refl, go (finalize_at s (length memory)) (λ next. made_follows next cs))
   where
-    go : (r : Finalized) → ((next : SequenceEncoder) → Follows next (made next cs))
+    go : (r : Result ℕ (Refused SequenceEncoder)) → ((next : SequenceEncoder) → Follows next (made next cs))
         → unless_final r (Ends (unless_final r [] (λ next. made next cs))) (λ next. Follows next (unless_final r [] (λ next. made next cs)))
-    go (Finalized.Wrote count) ih = tt
-    go (Finalized.Refused q next) ih = ih next
+    go (Ok count) ih = tt
+    go (Err e) ih = ih e.state
 
 made_outcomes : (s : SequenceEncoder) (cs : List Call) → outcomes_of (made s cs) ≡ run s cs
 unfolding made run
@@ -75,10 +76,10 @@ made_outcomes s (finalize memory ∷ cs) =
     ap (λ (os : List Outcome). record { reply = finalized_reply (finalize_at s (length memory)); memory = finalize_memory s memory } ∷ os)
     (go (finalize_at s (length memory)) (λ next. made_outcomes next cs))
   where
-    go : (r : Finalized) → ((next : SequenceEncoder) → outcomes_of (made next cs) ≡ run next cs)
+    go : (r : Result ℕ (Refused SequenceEncoder)) → ((next : SequenceEncoder) → outcomes_of (made next cs) ≡ run next cs)
         → outcomes_of (unless_final r [] (λ next. made next cs)) ≡ unless_final r [] (λ next. run next cs)
-    go (Finalized.Wrote count) ih = refl
-    go (Finalized.Refused q next) ih = ih next
+    go (Ok count) ih = refl
+    go (Err e) ih = ih e.state
 
 -- each call that the definitions answer is made, in the order of the list
 made_calls : (s : SequenceEncoder) (cs : List Call) → calls_of (made s cs) ≡ take (length (run s cs)) cs
@@ -90,18 +91,18 @@ made_calls s (finalize memory ∷ cs) =
     ap (λ (l : List Call). finalize memory ∷ l) (go (finalize_at s (length memory)) (λ next. made_calls next cs))
   where
     go :
-        (r : Finalized) →
+        (r : Result ℕ (Refused SequenceEncoder)) →
         ((next : SequenceEncoder) → calls_of (made next cs) ≡ take (length (run next cs)) cs) →
         calls_of (unless_final r [] (λ next. made next cs)) ≡ take (length (unless_final r [] (λ next. run next cs))) cs
-    go (Finalized.Wrote count) ih = refl
-    go (Finalized.Refused q next) ih = ih next
+    go (Ok count) ih = refl
+    go (Err e) ih = ih e.state
 
 -- ---- the list, from an accepted `new`
 
 abbrev made_new : ℕ → Bool → NewCall
 made_new alphabet fold = record { κs = tt; args = (alphabet, (fold, tt)); result = start_encoder_at alphabet fold; exit = (alphabet, (fold, tt)); met = refl }
 
-new-accepted : (alphabet : ℕ) (fold : Bool) → known alphabet ≡ true → start_encoder_at alphabet fold ≡ EncoderStarted.Fresh (fresh_encoder fold (kind_of alphabet))
+new-accepted : (alphabet : ℕ) (fold : Bool) → known alphabet ≡ true → start_encoder_at alphabet fold ≡ Ok (fresh_encoder fold (kind_of alphabet))
 unfolding start_encoder_at
 new-accepted alphabet fold o = rw o
 
@@ -134,13 +135,13 @@ made_finished s (update piece memory ∷ cs) = made_finished (next_encoder (upda
 made_finished s (finalize memory ∷ cs) = go (finalize_at s (length memory)) (λ next. made_finished next cs)
   where
     go :
-        (r : Finalized) →
+        (r : Result ℕ (Refused SequenceEncoder)) →
         ((next : SequenceEncoder) → finished (take (length (run next cs)) cs) (run next cs) ≡ finished cs (run next cs)) →
         cond (is_accepted (finalized_reply r)) true
         (finished (take (length (unless_final r [] (λ next. run next cs))) cs) (unless_final r [] (λ next. run next cs)))
         ≡ cond (is_accepted (finalized_reply r)) true (finished cs (unless_final r [] (λ next. run next cs)))
-    go (Finalized.Wrote count) ih = refl
-    go (Finalized.Refused q next) ih = ap (cond (is_accepted (finalized_reply (Finalized.Refused q next))) true) (ih next)
+    go (Ok count) ih = refl
+    go (Err e) ih = ap (cond (is_accepted (finalized_reply (Err (e.refusal keeping e.state)))) true) (ih e.state)
 
 made_text : (s : SequenceEncoder) (cs : List Call) → accepted_text (take (length (run s cs)) cs) (run s cs) ≡ accepted_text cs (run s cs)
 unfolding run accepted_text
@@ -151,12 +152,12 @@ made_text s (update piece memory ∷ cs) =
 made_text s (finalize memory ∷ cs) = go (finalize_at s (length memory)) (λ next. made_text next cs)
   where
     go :
-        (r : Finalized) →
+        (r : Result ℕ (Refused SequenceEncoder)) →
         ((next : SequenceEncoder) → accepted_text (take (length (run next cs)) cs) (run next cs) ≡ accepted_text cs (run next cs)) →
         accepted_text (take (length (unless_final r [] (λ next. run next cs))) cs) (unless_final r [] (λ next. run next cs))
         ≡ accepted_text cs (unless_final r [] (λ next. run next cs))
-    go (Finalized.Wrote count) ih = accepted_nil (take 0 cs) ∙ sym (accepted_nil cs)
-    go (Finalized.Refused q next) ih = ih next
+    go (Ok count) ih = accepted_nil (take 0 cs) ∙ sym (accepted_nil cs)
+    go (Err e) ih = ih e.state
 
 -- every list of calls of which a `finalize` is accepted is a finished one
 pub every-finished :

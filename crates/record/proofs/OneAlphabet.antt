@@ -1,4 +1,5 @@
 -- Request A9, of calls: what the guesses of a genome's chromosomes come to, one after another, is the guess of all of them joined, and packs each.
+use Rattle.std.proofs.Common.{Result, Ok}
 use mathlib.Core.Path.{◌≡◌, refl, sym, ap, ap₂, subst, ◌∙◌}
 use mathlib.Core.Bool.{Bool, true}
 use mathlib.Core.List.Perm
@@ -8,7 +9,6 @@ use native.Mathlib.Omega.{arith}
 use lib.ListN.{length, get_or}
 use Rattle.bits.specs.Tables.{Bytes}
 use Rattle.alphabet.specs.declared.kind.AlphabetType.{AlphabetType}
-use Rattle.alphabet.specs.declared.kind.Named.{Named}
 use Rattle.alphabet.specs.Questions.{value_in}
 use Rattle.alphabet.specs.Symbols.{Coding, coding_by}
 use Rattle.alphabet.specs.Names.{number_of, known, kind_of, numbered_by}
@@ -18,7 +18,6 @@ use Rattle.alphabet.specs.Genome.{later_at, latest}
 use Rattle.alphabet.proofs.Calls.{kind_number, known_number, later-kinds, held-members}
 use Rattle.alphabet.proofs.Combining.{combining}
 use Rattle.packing.specs.Encode.{packing}
-use Rattle.packing.specs.declared.sequence.Encoded.{Encoded}
 use Rattle.record.specs.Texts.{Members}
 use Rattle.record.specs.Made.{GuessCall, LaterCall, EncodeCall}
 use Rattle.record.specs.Record.{alphabet_for, fold_for, text_for, before}
@@ -26,6 +25,7 @@ use Rattle.record.specs.Genome.{fold_guessed, text_guessed, first_of, second_of,
 use Rattle.record.specs.Genome.{texts_of, last_told, texts_in, answer_in, size_for, PacksOne, OneAlphabet}
 use Rattle.record.proofs.Tallies.{length-packing}
 use Rattle.record.proofs.AtOnce.{encode-packed}
+use Rattle.alphabet.specs.declared.refusal.Refusal.{Refusal}
 
 -- ---- the calls, by their contracts
 
@@ -36,7 +36,7 @@ guess_is c = c.met
 tells : (fold : Bool) (done text : List ℕ) (c : LaterCall) → first_of c ≡ number_of (guess_of fold done) → second_of c ≡ number_of (guess_of fold text)
     → told_by c ≡ number_of (guess_of fold (done ++ text))
 tells fold done text c e f =
-    ap (λ (r : Named). value_in 0 (named_reply r)) (c.met.0 ∙ ap₂ later_at e f ∙ later-kinds (guess_of fold done) (guess_of fold text))
+    ap (λ (r : Result AlphabetType Refusal). value_in 0 (named_reply r)) (c.met.0 ∙ ap₂ later_at e f ∙ later-kinds (guess_of fold done) (guess_of fold text))
     ∙ ap number_of (sym ((combining fold).joined done text))
 
 all_told : (fold : Bool) (done : List ℕ) (cs : List Chromosome) → Follows fold (number_of (guess_of fold done)) cs
@@ -83,7 +83,7 @@ one_alphabet = record { guessed = guessed; packs = packs }
     guessed g texts p c choice text =
         answer_is g ∙ ap number_of (same_guess g.fold (texts_in g) texts p ∙ ap₂ guess_of (sym choice) (sym text) ∙ sym (guess_is c))
 
-    packs : (g : Genome) (i : ℕ) (e : EncodeCall) → PacksOne g i e → e.result ≡ Encoded.Wrote (size_for e)
+    packs : (g : Genome) (i : ℕ) (e : EncodeCall) → PacksOne g i e → e.result ≡ Ok (size_for e)
     packs g i e one =
         let bytes : Bytes (get_or (texts_in g) i []) = subst Bytes one.text one.bytes in
         let A : Coding = numbered_by (fold_for e) (alphabet_for e) in
@@ -103,4 +103,4 @@ one_alphabet = record { guessed = guessed; packs = packs }
           packs = refl;
         })
         (omega (arith, long, one.room))).0
-        ∙ ap Encoded.Wrote long
+        ∙ ap Ok long

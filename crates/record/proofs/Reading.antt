@@ -1,4 +1,5 @@
 -- Every decoder's call that is set to a window of what an encoder's list wrote gives the window's symbols.
+use Rattle.std.proofs.Common.{Ok, Err}
 use mathlib.Core.Path.{◌≡◌, refl, sym, ap, ap₂, ◌∙◌}
 use mathlib.Core.Bool.{Bool, true, false, ◌&&◌}
 use mathlib.Core.List.{List, [], ◌∷◌, map}
@@ -33,13 +34,13 @@ unfolding packing
 packing-codes A text m = ap (pack A.width) (members-codes A text m)
 
 -- the bytes that an accepted call names
-range-names : (s e b from to : ℕ) → range_at s e b ≡ Range.Bytes from to → (from ≡ first_byte b s) × (to ≡ end_byte b e)
+range-names : (s e b from to : ℕ) → range_at s e b ≡ Ok (record { from = from; to = to }) → (from ≡ first_byte b s) × (to ≡ end_byte b e)
 unfolding range_at
 range-names s e b from to q = go (leb b 8) (in_bounds s && in_bounds e) q
   where
     go :
         (x y : Bool) →
-        (ask x else Range.Refused (by 9 []) then ask y else Range.Refused (by 2 []) then Range.Bytes (first_byte b s) (end_byte b e)) ≡ Range.Bytes from to →
+        (ask x else Err (by 9 []) then ask y else Err (by 2 []) then Ok (record { from = first_byte b s; to = end_byte b e })) ≡ Ok (record { from = from; to = to }) →
         (from ≡ first_byte b s) × (to ≡ end_byte b e)
     go true true q = (cc, cc)
     go true false q = let z : ◌≡◌ {A = ℕ} 0 1 = cc in absurd (omega arith)

@@ -1,4 +1,5 @@
 -- The state that a text stands for: what an encoder holds once the text's pieces were accepted, however they were cut.
+use Rattle.std.proofs.Common.{Option, Some}
 use mathlib.Core.Path.{◌≡◌, refl, sym, ap, ap₂, ◌∙◌}
 use mathlib.Core.Bool.{Bool, true, false, cond, not, ◌&&◌}
 use mathlib.Core.List.{List, [], ◌∷◌, ◌++◌, map-append}
@@ -18,12 +19,12 @@ use Rattle.alphabet.specs.declared.kind.AlphabetType.{AlphabetType}
 use Rattle.alphabet.specs.Questions.{limit}
 use Rattle.alphabet.specs.Symbols.{Coding, coding_by}
 use Rattle.alphabet.proofs.Laws.{lawful}
-use Rattle.packing.specs.declared.first.First.{First}
 use Rattle.packing.specs.declared.encoder.SequenceEncoder.{SequenceEncoder}
 use Rattle.members.specs.Members.{bad_in}
 use Rattle.packing.specs.Encode.{digit_of, digits_of, first_from, bad_from_of, or_first_of, both_bad_of, sound_first, sound_count, sound_bad, sound_encoder}
 use Rattle.packing.specs.Encode.{fresh_encoder, piece_bits, piece_bit_count, updated}
 use Rattle.packing.proofs.Ends.{sound_rest}
+use Rattle.packing.specs.declared.stranger.Stranger.{Stranger}
 
 -- the bits of a text's digits, one after another
 abbrev pub text_bits : Coding → List ℕ → ℕ → ℕ
@@ -40,7 +41,7 @@ module _ (A : Coding) where
       go (A.member x) (first_append (suc i) t u ∙ ap (λ (j : ℕ). or_first_of (first_from A (suc i) t) (first_from A j u)) next)
     where
       go : (m : Bool) → first_from A (suc i) (t ++ u) ≡ or_first_of (first_from A (suc i) t) (first_from A (i + suc (length t)) u)
-          → cond m (first_from A (suc i) (t ++ u)) (First.At i x) ≡ or_first_of (cond m (first_from A (suc i) t) (First.At i x)) (first_from A (i + suc (length t)) u)
+          → cond m (first_from A (suc i) (t ++ u)) (Some (record { position = i; byte = x })) ≡ or_first_of (cond m (first_from A (suc i) t) (Some (record { position = i; byte = x }))) (first_from A (i + suc (length t)) u)
       go true ih = ih
       go false ih = refl
 
@@ -49,13 +50,13 @@ module _ (A : Coding) where
   first_sound i n [] h = refl
   first_sound i n (x ∷ t) h = go (A.member x) refl (first_sound (suc i) n t (omega arith))
     where
-      go : (m : Bool) → A.member x ≡ m → sound_first A n (first_from A (suc i) t) ≡ true → sound_first A n (cond m (first_from A (suc i) t) (First.At i x)) ≡ true
+      go : (m : Bool) → A.member x ≡ m → sound_first A n (first_from A (suc i) t) ≡ true → sound_first A n (cond m (first_from A (suc i) t) (Some (record { position = i; byte = x }))) ≡ true
       go true e ih = ih
       go false e ih = ap (λ (c : Bool). not c && ltb i n) e ∙ lt-ltb i n (omega arith)
 
   -- the non-members of joined texts: the counts add
   pub bad_append : (i : ℕ) (t u : List ℕ) → bad_from_of A i (t ++ u) ≡ both_bad_of (bad_from_of A i t) (bad_from_of A (i + length t) u)
-  bad_append i t u = ap₂ (λ (f : First) (n : ℕ). record { first = f; count = n }) (first_append i t u) (many_append (λ v. not (A.member v)) t u)
+  bad_append i t u = ap₂ (λ (f : Option Stranger) (n : ℕ). record { first = f; count = n }) (first_append i t u) (many_append (λ v. not (A.member v)) t u)
 
   -- as many as there are from the first one on, and none where there is none
   count_sound : (i n : ℕ) (t : List ℕ) → i + length t ≤ n → sound_count n (first_from A i t) (bad_in A t) ≡ true
@@ -64,7 +65,7 @@ module _ (A : Coding) where
   count_sound i n (x ∷ t) h = go (A.member x) (count_sound (suc i) n t (omega arith)) (many_le (λ v. not (A.member v)) t)
     where
       go : (m : Bool) → sound_count n (first_from A (suc i) t) (bad_in A t) ≡ true → bad_in A t ≤ length t
-          → sound_count n (cond m (first_from A (suc i) t) (First.At i x)) (cond (not m) 1 0 + bad_in A t) ≡ true
+          → sound_count n (cond m (first_from A (suc i) t) (Some (record { position = i; byte = x }))) (cond (not m) 1 0 + bad_in A t) ≡ true
       go true ih few = ap (sound_count n (first_from A (suc i) t)) (zero-add (bad_in A t)) ∙ ih
       go false ih few = rw (lt-ltb 0 (1 + bad_in A t) (omega arith)) (le-leb (1 + bad_in A t) (n - i) (omega arith))
 

@@ -1,4 +1,5 @@
 -- Streams by the count: what every list comes to, what a call behind it does, and the list over a window of what an encoder's list wrote.
+use Rattle.std.proofs.Common.{Ok, Err}
 use mathlib.Core.Path.{◌≡◌, refl, sym, ap, ap₂, ◌∙◌, subst}
 use mathlib.Core.Bool.{Bool, true, false, cond, not, ◌||◌}
 use mathlib.Core.List.{List, [], ◌∷◌, ◌++◌, map}
@@ -22,9 +23,7 @@ use Rattle.windows.specs.Window.{window}
 use Rattle.windows.proofs.Given.{window_first}
 use Rattle.streaming.specs.declared.decoder.StreamingDecoder.{StreamingDecoder}
 use Rattle.streaming.specs.declared.decoder.Status.TheVariants.{Hungry}
-use Rattle.streaming.specs.declared.decoder.StreamStarted.{StreamStarted}
 use Rattle.streaming.specs.declared.decoder.Streamed.{Streamed}
-use Rattle.streaming.specs.declared.decoder.Ended.{Ended}
 use Rattle.streaming.specs.Answers.{ended_reply}
 use Rattle.streaming.specs.Stream.{fresh_stream, start_stream_at, status_for, end_at}
 use Rattle.streaming.specs.Count.{Place, begin, taken_by, complete, source_of, offered, reached, place_after, bases_between, stands_for}
@@ -38,18 +37,19 @@ use Rattle.record.specs.Decoders.{Window}
 use Rattle.record.specs.Record.{coding_of, place_in, bases_in, taken_in, Counted, GoesOn, wrote_by, Largest, Streams, StreamGives}
 use Rattle.record.proofs.Reading.{named-range, lent_serves}
 use Rattle.record.proofs.Streamed.{CallsOn, Comes, comes_fresh, no_bases, none_taken, length_bases, call, source_is, answers, next_taken}
+use Rattle.alphabet.specs.Refusing.{◌keeping◌}
 
 -- an accepted `new` was handed a skip below 8 and returned a fresh state
-started-stream : (n skip budget : ℕ) (s : StreamingDecoder) → start_stream_at n skip budget ≡ StreamStarted.Fresh s → (skip < 8) × (fresh_stream (kind_of n) skip budget ≡ s)
+started-stream : (n skip budget : ℕ) (s : StreamingDecoder) → start_stream_at n skip budget ≡ Ok s → (skip < 8) × (fresh_stream (kind_of n) skip budget ≡ s)
 unfolding start_stream_at
 started-stream n skip budget s e = go (known n) (ltb skip 8) refl e
   where
     go :
         (a b : Bool) →
         ltb skip 8 ≡ b →
-        (ask a else StreamStarted.Refused (by 8 []) then
-        ask b else StreamStarted.Refused (by 6 []) then
-        StreamStarted.Fresh (fresh_stream (kind_of n) skip budget)) ≡ StreamStarted.Fresh s →
+        (ask a else Err (by 8 []) then
+        ask b else Err (by 6 []) then
+        Ok (fresh_stream (kind_of n) skip budget)) ≡ Ok s →
         (skip < 8) × (fresh_stream (kind_of n) skip budget ≡ s)
     go true true l q = (ltb-true skip 8 l, cc)
     go true false l q = let z : ◌≡◌ {A = ℕ} 0 1 = cc in absurd (omega arith)
@@ -142,9 +142,7 @@ module _ (t : StreamList) (c : ReadCall) (on : GoesOn t c) where
 
   result-is :
       c.result
-      ≡ Streamed.Moved (taken_by A (skip_of t) then_at - taken_by A (skip_of t) p) (then_at.k - p.k)
-      (cond then_at.due Hungry (status_for (budget_of t - then_at.k) (length (memory_for c) - (then_at.k - p.k))))
-      (stands_for (kind_in t) (skip_of t) (budget_of t) t.lent then_at)
+      ≡ Ok (record { taken = taken_by A (skip_of t) then_at - taken_by A (skip_of t) p; written = then_at.k - p.k; status = cond then_at.due Hungry (status_for (budget_of t - then_at.k) (length (memory_for c) - (then_at.k - p.k))); next = stands_for (kind_in t) (skip_of t) (budget_of t) t.lent then_at })
   result-is = answers (kind_in t) (skip_of t) (budget_of t) t.lent (begun t).0 p (taken_in t) c from
 
   offered_is : offered A (skip_of t) (budget_of t) t.lent p (length (source_for c)) ≡ taken_in t + length (source_for c)
@@ -153,7 +151,7 @@ module _ (t : StreamList) (c : ReadCall) (on : GoesOn t c) where
       ap₂ (λ (x : ℕ) (l : List ℕ). x + length l) (sym (counted t).took)
       (sym (source_is (kind_in t) (skip_of t) (budget_of t) t.lent (begun t).0 p (taken_in t) c from))
 
-  pub waiting : taken_in t + length (source_for c) < bytes_for (skip_of t) → c.result ≡ Streamed.Moved 0 0 Hungry (state_for c)
+  pub waiting : taken_in t + length (source_for c) < bytes_for (skip_of t) → c.result ≡ Ok (record { taken = 0; written = 0; status = Hungry; next = state_for c })
   waiting h =
       let few : offered A (skip_of t) (budget_of t) t.lent p (length (source_for c)) < bytes_for (skip_of t) = omega (arith, offered_is) in
       let due : p.due ≡ true = still_due (kind_in t) (skip_of t) (budget_of t) t.lent p reach (length (source_for c)) (length (memory_for c)) few in
@@ -162,9 +160,8 @@ module _ (t : StreamList) (c : ReadCall) (on : GoesOn t c) where
       let none_written : p.k - p.k ≡ 0 = omega arith in
       result-is
       ∙ (λ i.
-      Streamed.Moved (taken_by A (skip_of t) (same i) - taken_by A (skip_of t) p) ((same i).k - p.k)
-      (cond (same i).due Hungry (status_for (budget_of t - (same i).k) (length (memory_for c) - ((same i).k - p.k)))) (stands_for (kind_in t) (skip_of t) (budget_of t) t.lent (same i)))
-      ∙ (λ i. Streamed.Moved (none-taken-now i) (none_written i) (cond (due i) Hungry (status_for (budget_of t - p.k) (length (memory_for c) - (p.k - p.k)))) (sym given i))
+      Ok (record { taken = taken_by A (skip_of t) (same i) - taken_by A (skip_of t) p; written = (same i).k - p.k; status = cond (same i).due Hungry (status_for (budget_of t - (same i).k) (length (memory_for c) - ((same i).k - p.k))); next = stands_for (kind_in t) (skip_of t) (budget_of t) t.lent (same i) }))
+      ∙ (λ i. Ok (record { taken = none-taken-now i; written = none_written i; status = cond (due i) Hungry (status_for (budget_of t - p.k) (length (memory_for c) - (p.k - p.k))); next = sym given i }))
 
   pub is_largest : bytes_for (skip_of t) ≤ taken_in t + length (source_for c) → Largest t c (length (bases_in t) + wrote_by c.result)
   unfolding taken_by
@@ -233,7 +230,7 @@ take-map f zero xs = refl
 take-map f (suc k) [] = refl
 take-map f (suc k) (x ∷ xs) = ap (λ (l : List ℕ). f x ∷ l) (take-map f k xs)
 
-ended-reply : (b : Bool) (x : ℕ) (s : StreamingDecoder) → ended_reply (cond b Ended.Complete (Ended.Refused (by 7 (x ∷ [])) s)) ≡ cond b (accepted []) (refused 7 (x ∷ []))
+ended-reply : (b : Bool) (x : ℕ) (s : StreamingDecoder) → ended_reply (cond b (Ok tt) (Err (by 7 (x ∷ []) keeping s))) ≡ cond b (accepted []) (refused 7 (x ∷ []))
 ended-reply true x s = refl
 ended-reply false x s = refl
 

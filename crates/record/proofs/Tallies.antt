@@ -1,4 +1,5 @@
 -- A list of calls by the encoder's definitions, refused calls included, is told by the tally.
+use Rattle.std.proofs.Common.{Result, Ok, Err, Option, Some, None}
 use mathlib.Core.Path.{◌≡◌, refl, sym, ap, ap₂, ◌∙◌}
 use mathlib.Core.Bool.{Bool, true, false, cond}
 use mathlib.Core.List.{List, [], ◌∷◌, ◌++◌, append-nil}
@@ -16,10 +17,8 @@ use Rattle.bits.proofs.Appended.{length_cut, cut_moved, drop-cut, part_cut}
 use Rattle.alphabet.specs.declared.kind.AlphabetType.{AlphabetType}
 use Rattle.alphabet.specs.Questions.{ask◌else◌then◌, by, limit, in_bounds, accepted, refused}
 use Rattle.alphabet.specs.Symbols.{Coding, coding_by}
-use Rattle.packing.specs.declared.first.First.{First}
 use Rattle.packing.specs.declared.encoder.SequenceEncoder.{SequenceEncoder}
 use Rattle.packing.specs.declared.encoder.Updated.{Updated}
-use Rattle.packing.specs.declared.encoder.Finalized.{Finalized}
 use Rattle.packing.specs.Answers.{updated_reply, finalized_reply}
 use Rattle.members.specs.Members.{bad_in, members_ahead_of}
 use Rattle.packing.specs.Encode.{digit_of, packing, first_from, unless_bad, fresh_encoder, piece_bits, piece_bit_count}
@@ -29,6 +28,9 @@ use Rattle.record.specs.Calls.{Call, update, finalize, Outcome, is_accepted}
 use Rattle.record.specs.Tally.{text_packed, bytes_filled, Turn, stay, completes, update_turn, finalize_turn, shown, tally}
 use Rattle.record.specs.Runs.{next_encoder, unless_final, run}
 use Rattle.record.proofs.States.{text_bits, state_of, fresh_state, state_sound, length_both, piece-bits, state_updated}
+use Rattle.alphabet.specs.declared.refusal.Refused.{Refused}
+use Rattle.alphabet.specs.Refusing.{◌keeping◌}
+use Rattle.packing.specs.declared.stranger.Stranger.{Stranger}
 
 -- ---- the tally's words and the encoder's
 
@@ -47,7 +49,7 @@ module _ (A : Coding) where
 
 -- the question of memory for one byte
 due : (s : SequenceEncoder) (c d room : ℕ) (b : Bool) → c ≡ d → leb d room ≡ b
-    → (ask leb c room else Finalized.Refused (by 4 []) s then Finalized.Wrote c) ≡ (ask b else Finalized.Refused (by 4 []) s then Finalized.Wrote d)
+    → (ask leb c room else Err (by 4 [] keeping s) then Ok c) ≡ (ask b else Err (by 4 [] keeping s) then Ok d)
 due s c d room b e l = rw (e, l)
 
 -- ---- by an alphabet and a choice to fold
@@ -84,9 +86,9 @@ module _ (fold : Bool) (k : AlphabetType) where
         (room : ℕ) →
         length text ≤ limit →
         update_at (state text) piece room
-        ≡ (ask in_bounds (length text + length piece) else Updated.Refused (by 2 []) (state text) then
-        ask leb (completes A text piece) room else Updated.Refused (by 4 []) (state text) then
-        Updated.Wrote (completes A text piece) (state (text ++ piece)))
+        ≡ (ask in_bounds (length text + length piece) else Err (by 2 [] keeping state text) then
+        ask leb (completes A text piece) room else Err (by 4 [] keeping state text) then
+        Ok (record { count = completes A text piece; next = state (text ++ piece) }))
     unfolding update_at state_of
     update-answer room h = rw (state_sound fold k text h, count_same, state_updated fold k text piece)
 
@@ -100,7 +102,7 @@ module _ (fold : Bool) (k : AlphabetType) where
   step-update text piece memory cs h go =
       ap after (update-answer text piece (length memory) h) ∙ by_cases (in_bounds (length text + length piece)) (leb (completes A text piece) (length memory)) refl
     where
-      after : Updated → List Outcome
+      after : Result Updated (Refused SequenceEncoder) → List Outcome
       after r = record { reply = updated_reply r; memory = front (update_writes (state text) piece r) memory } ∷ run (next_encoder r) cs
 
       next : Turn → List Outcome
@@ -110,9 +112,9 @@ module _ (fold : Bool) (k : AlphabetType) where
           (a b : Bool) →
           in_bounds (length text + length piece) ≡ a →
           after
-          (ask a else Updated.Refused (by 2 []) (state text) then
-          ask b else Updated.Refused (by 4 []) (state text) then
-          Updated.Wrote (completes A text piece) (state (text ++ piece)))
+          (ask a else Err (by 2 [] keeping state text) then
+          ask b else Err (by 4 [] keeping state text) then
+          Ok (record { count = completes A text piece; next = state (text ++ piece) }))
           ≡ next
           (ask a else stay text (refused 2 []) then
           ask b else stay text (refused 4 []) then
@@ -148,28 +150,28 @@ module _ (fold : Bool) (k : AlphabetType) where
         length text ≤ limit →
         finalize_at (state text) room
         ≡ (ask eqb (members_ahead_of A text) (length text)
-        else Finalized.Refused (by 5 (members_ahead_of A text ∷ at text (members_ahead_of A text) ∷ bad_in A text ∷ [])) (state text) then
-        ask leb (bytes_for pends) room else Finalized.Refused (by 4 []) (state text) then
-        Finalized.Wrote (bytes_for pends))
+        else Err (by 5 (members_ahead_of A text ∷ at text (members_ahead_of A text) ∷ bad_in A text ∷ []) keeping state text) then
+        ask leb (bytes_for pends) room else Err (by 4 [] keeping state text) then
+        Ok (bytes_for pends))
     unfolding finalize_at state_of
     finalize-answer room h =
-        ap (λ (b : Bool). ask b else Finalized.Refused (by 1 []) (state text) then asked (first_from A 0 text)) (state_sound fold k text h)
-        ∙ ap asked (first-ahead A 0 text ∙ ap (λ (j : ℕ). cond (eqb a (length text)) First.Nothing (First.At j (at text a))) (zero-add a))
+        ap (λ (b : Bool). ask b else Err (by 1 [] keeping state text) then asked (first_from A 0 text)) (state_sound fold k text h)
+        ∙ ap asked (first-ahead A 0 text ∙ ap (λ (j : ℕ). cond (eqb a (length text)) None (Some (record { position = j; byte = at text a }))) (zero-add a))
         ∙ go (eqb a (length text))
       where
         a : ℕ
         a = members_ahead_of A text
 
-        rest : Finalized
-        rest = ask leb (bytes_for pends) room else Finalized.Refused (by 4 []) (state text) then Finalized.Wrote (bytes_for pends)
+        rest : Result ℕ (Refused SequenceEncoder)
+        rest = ask leb (bytes_for pends) room else Err (by 4 [] keeping state text) then Ok (bytes_for pends)
 
-        asked : First → Finalized
-        asked first = unless_bad first (λ position byte. Finalized.Refused (by 5 (position ∷ byte ∷ bad_in A text ∷ [])) (state text)) rest
+        asked : Option Stranger → Result ℕ (Refused SequenceEncoder)
+        asked first = unless_bad first (λ position byte. Err (by 5 (position ∷ byte ∷ bad_in A text ∷ []) keeping state text)) rest
 
         go :
             (b : Bool) →
-            asked (cond b First.Nothing (First.At a (at text a)))
-            ≡ (ask b else Finalized.Refused (by 5 (a ∷ at text a ∷ bad_in A text ∷ [])) (state text) then rest)
+            asked (cond b None (Some (record { position = a; byte = at text a })))
+            ≡ (ask b else Err (by 5 (a ∷ at text a ∷ bad_in A text ∷ []) keeping state text) then rest)
         go true = refl
         go false = refl
 
@@ -185,7 +187,7 @@ module _ (fold : Bool) (k : AlphabetType) where
       a : ℕ
       a = members_ahead_of A text
 
-      after : Finalized → List Outcome
+      after : Result ℕ (Refused SequenceEncoder) → List Outcome
       after r =
           record { reply = finalized_reply r; memory = front (finalize_writes (state text) r) memory }
           ∷ unless_final r [] (λ s. run s cs)
@@ -201,9 +203,9 @@ module _ (fold : Bool) (k : AlphabetType) where
           eqb (pends text) 0 ≡ p →
           ltb 0 (length memory) ≡ m →
           after
-          (ask b else Finalized.Refused (by 5 (a ∷ at text a ∷ bad_in A text ∷ [])) (state text) then
-          ask leb (bytes_for (pends text)) (length memory) else Finalized.Refused (by 4 []) (state text) then
-          Finalized.Wrote (bytes_for (pends text)))
+          (ask b else Err (by 5 (a ∷ at text a ∷ bad_in A text ∷ []) keeping state text) then
+          ask leb (bytes_for (pends text)) (length memory) else Err (by 4 [] keeping state text) then
+          Ok (bytes_for (pends text)))
           ≡ next
           (ask b else stay text (refused 5 (a ∷ at text a ∷ bad_in A text ∷ [])) then
           cond p (stay text (accepted (0 ∷ [])))

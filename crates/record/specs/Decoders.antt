@@ -1,6 +1,6 @@
 -- Windows of what an encoder's list wrote, and the decoders' calls. States the words of demand 3's sentence on windows, and document 01, "The record", its
 -- list of decoders.
-use Rattle.std.specs.Prelude.{ℕ, ◌-◌, ◌*◌, ◌≤◌, ◌<◌, ◌≡◌, Bool, true, false, cond, List, map, length, take, drop}
+use Rattle.std.specs.Prelude.{ℕ, ◌-◌, ◌*◌, ◌≤◌, ◌<◌, ◌≡◌, Bool, true, false, cond, List, map, length, take, drop, Result, Ok}
 use Rattle.bits.specs.Tables.{at}
 use Rattle.bits.specs.Streams.{bit_at}
 use Rattle.bits.specs.Packing.{file_byte}
@@ -9,10 +9,10 @@ use Rattle.alphabet.specs.declared.kind.AlphabetType.{AlphabetType}
 use Rattle.alphabet.specs.declared.kind.AlphabetType.TheVariants.{Dna2bit, Dna3bit, DnaIupac, Protein}
 use Rattle.alphabet.specs.Names.{number_of}
 use Rattle.packing.specs.declared.range.Range.{Range}
-use Rattle.windows.specs.declared.read.Read.{Read}
 use Rattle.record.specs.Made.{EnginePost, EngineCall, RangeCall, AtOffsetCall, SubstringCall, StringCall}
 use Rattle.record.specs.Made.{CoveredCall, TwoBitCall, ThreeBitCall, FourBitCall, FiveBitCall, RollingCall}
 use Rattle.record.specs.EncoderLists.{EncoderList, alphabet_in, coding_in, Finished, text_in, bytes_in}
+use Rattle.alphabet.specs.declared.refusal.Refusal.{Refusal}
 
 -- ---- a window
 
@@ -27,7 +27,7 @@ pub record Window (l : EncoderList) : Type 0 where
   pub asked : let (start, (end, (bits, _))) = range.args in (start ≡ s) × (end ≡ e) × (bits ≡ (coding_in l).width)
   pub from : ℕ
   pub to : ℕ
-  pub named : range.result ≡ Range.Bytes from to
+  pub named : range.result ≡ Ok (record { from = from; to = to })
 
 -- its symbols: those that bytes s to e - 1 of the text stand for
 abbrev pub symbols_in : (l : EncoderList) → Window l → List ℕ
@@ -61,7 +61,7 @@ pub record Handed : Type 0 where
   pub start : ℕ
   pub end : ℕ
   pub memory : List ℕ
-  pub result : Read
+  pub result : Result ℕ Refusal
   pub afterwards : List ℕ
 
 -- the parameters of an engine of one alphabet by their names, in their order
@@ -125,5 +125,5 @@ Set l w c = SetTo l w (handed c) (cond (takes_offset c) w.from 0)
 
 -- what it gives: its count is e - s, the front of its memory holds the symbols s to e - 1, the rest of it is as it was
 pub record Gives (l : EncoderList) (w : Window l) (h : Handed) : Type 0 where
-  pub told : h.result ≡ Read.Bases (w.e - w.s)
+  pub told : h.result ≡ Ok (w.e - w.s)
   pub left : h.afterwards ≡ front (symbols_in l w) h.memory

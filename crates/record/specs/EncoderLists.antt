@@ -1,10 +1,9 @@
 -- An encoder's lists as the code makes them. States document 01, "The record": the first call gets a fresh state, each later one the state last returned, and
 -- an accepted `finalize` ends the list.
-use Rattle.std.specs.Prelude.{ℕ, ◌≡◌, Bool, true, List, [], ◌∷◌}
+use Rattle.std.specs.Prelude.{ℕ, ◌≡◌, Bool, true, List, [], ◌∷◌, Ok}
 use Rattle.alphabet.specs.Symbols.{Coding}
 use Rattle.alphabet.specs.Names.{numbered_by}
 use Rattle.packing.specs.declared.encoder.SequenceEncoder.{SequenceEncoder}
-use Rattle.packing.specs.declared.encoder.EncoderStarted.{EncoderStarted}
 use Rattle.packing.specs.Answers.{updated_reply, finalized_reply}
 use Rattle.record.specs.Calls.{Call, update, finalize, Outcome, written, accepted_text, finished}
 use Rattle.record.specs.Runs.{next_encoder, unless_final}
@@ -44,7 +43,7 @@ outcomes_of (finalizes c ∷ cs) =
 pub record EncoderList : Type 0 where
   pub new : NewCall
   pub fresh : SequenceEncoder
-  pub started : new.result ≡ EncoderStarted.Fresh fresh
+  pub started : new.result ≡ Ok fresh
   pub calls : List CodeCall
   pub follows : Follows fresh calls
 

@@ -1,10 +1,11 @@
 -- A piece asked about before it is packed. States request A10, "Ask before packing", of calls: `ask` answers what `update` answers, and is lent no output memory.
-use Rattle.std.specs.Prelude.{ℕ, ◌≤◌, ◌≡◌, List, [], leb, length, drop}
+use Rattle.std.specs.Prelude.{ℕ, ◌≤◌, ◌≡◌, List, [], leb, length, drop, Ok, Err}
 use Rattle.alphabet.specs.Questions.{ask◌else◌then◌, by, limit, number_in}
 use Rattle.packing.specs.Answers.{updated_reply}
 use Rattle.packing.specs.declared.encoder.SequenceEncoder.{SequenceEncoder}
 use Rattle.packing.specs.declared.encoder.Updated.{Updated}
 use Rattle.record.specs.Made.{AskCall, UpdateCall}
+use Rattle.alphabet.specs.Refusing.{◌keeping◌}
 
 -- ---- calls
 
@@ -53,14 +54,14 @@ pub record Foretold : Type 0 where
       (a : AskCall) (u : UpdateCall) →
       AsAsked a u →
       (count : ℕ) (next : SequenceEncoder) →
-      a.result ≡ Updated.Wrote count next →
+      a.result ≡ Ok (record { count = count; next = next }) →
       drop count (memory_left u) ≡ drop count (memory_given u)
   -- and so many bytes are enough, with the same next state, and fewer are refused by 4
   pub enough :
       (a b : AskCall) →
       AskedAgain a b →
       (count : ℕ) (next : SequenceEncoder) →
-      a.result ≡ Updated.Wrote count next →
-      b.result ≡ (ask leb count (room_asked b) else Updated.Refused (by 4 []) (state_asked b) then Updated.Wrote count next)
+      a.result ≡ Ok (record { count = count; next = next }) →
+      b.result ≡ (ask leb count (room_asked b) else Err (by 4 [] keeping state_asked b) then Ok (record { count = count; next = next }))
   -- asked about with 2^60 bytes or more, no piece is refused by 4
   pub always : (a : AskCall) → limit ≤ room_asked a → number_in (updated_reply a.result) ≡ 4 → ⊥

@@ -1,13 +1,12 @@
 -- One alphabet for a genome, as the code finds it. States request A9, "Guess per chromosome, answer per genome", of calls: each chromosome is guessed by itself, and its
 -- guess is combined with what the guesses before it came to.
-use Rattle.std.specs.Prelude.{ℕ, ◌*◌, ◌<◌, ◌≤◌, ◌≡◌, Bool, length, get_or}
+use Rattle.std.specs.Prelude.{ℕ, ◌*◌, ◌<◌, ◌≤◌, ◌≡◌, Bool, length, get_or, Ok}
 use mathlib.Core.List.{List, [], ◌∷◌, flatten, Perm}
 use Rattle.bits.specs.Tables.{Bytes}
 use Rattle.bits.specs.Packing.{bytes_for}
 use Rattle.alphabet.specs.Questions.{limit, value_in}
 use Rattle.alphabet.specs.Names.{number_of, numbered}
 use Rattle.alphabet.specs.Answers.{named_reply}
-use Rattle.packing.specs.declared.sequence.Encoded.{Encoded}
 use Rattle.record.specs.Made.{GuessCall, LaterCall, EncodeCall}
 use Rattle.record.specs.Record.{alphabet_for, fold_for, text_for, before}
 
@@ -95,4 +94,4 @@ pub record OneAlphabet : Type 0 where
   pub packs :
       (g : Genome) (i : ℕ) (e : EncodeCall) →
       PacksOne g i e →
-      e.result ≡ Encoded.Wrote (size_for e)
+      e.result ≡ Ok (size_for e)

@@ -1,14 +1,13 @@
 -- Demand 3, the record: one claim, its clauses in the order of the demand's sentences, about what the code does. Every call is one that its function's own
 -- contract allows. Request A1: what packs a text goes by the choice to fold that `new`, or `encode_sequence`, was handed, and each byte counts as the symbol that it
 -- then stands for; proofs/Uppercase.antt says which that is.
-use Rattle.std.specs.Prelude.{ℕ, ◌+◌, ◌-◌, ◌*◌, ◌%◌, ◌≤◌, ◌<◌, ◌≡◌, ◌↔◌, ◌⊎◌, Bool, cond, List, [], ◌∷◌, eqb, length, take}
+use Rattle.std.specs.Prelude.{ℕ, ◌+◌, ◌-◌, ◌*◌, ◌%◌, ◌≤◌, ◌<◌, ◌≡◌, ◌↔◌, ◌⊎◌, Bool, cond, List, [], ◌∷◌, eqb, length, take, Result, Ok, Err}
 use Rattle.bits.specs.Packing.{bytes_for}
 use Rattle.bits.specs.Memory.{front}
 use Rattle.alphabet.specs.Questions.{accepted, refused}
 use Rattle.alphabet.specs.Symbols.{Coding}
 use Rattle.alphabet.specs.Names.{numbered, numbered_by}
 use Rattle.packing.specs.Encode.{packing}
-use Rattle.packing.specs.declared.sequence.Encoded.{Encoded}
 use Rattle.streaming.specs.declared.decoder.Status.TheVariants.{Hungry}
 use Rattle.streaming.specs.declared.decoder.Streamed.{Streamed}
 use Rattle.streaming.specs.Answers.{ended_reply}
@@ -21,6 +20,7 @@ use Rattle.record.specs.EncoderLists.{EncoderList, calls_of, outcomes_of, alphab
 use Rattle.record.specs.Decoders.{Window, symbols_in, Lent, DecoderCall, handed, Set, Gives}
 use Rattle.record.specs.StreamTally.{stream_tally, place_of, total}
 use Rattle.record.specs.StreamLists.{StreamList, state_for, source_for, memory_for, state_at_end, asked_of, streamed_of, last_state, alphabet_of, skip_of, budget_of}
+use Rattle.alphabet.specs.declared.refusal.Refused.{Refused}
 
 -- ---- a call of `encode_sequence`: its alphabet number, its choice to fold, its text, and its memory before and afterwards
 
@@ -84,9 +84,9 @@ pub record EndsIt (t : StreamList) (c : EndCall) : Type 0 where
   pub state : state_at_end c ≡ last_state t.fresh t.calls
 
 -- the bases that an answer wrote
-abbrev pub wrote_by : Streamed → ℕ
-wrote_by (Streamed.Moved taken count status next) = count
-wrote_by (Streamed.Refused q next) = 0
+abbrev pub wrote_by : Result Streamed (Refused StreamingDecoder) → ℕ
+wrote_by (Ok m) = m.written
+wrote_by (Err e) = 0
 
 -- k, the bases written in all after a call: the largest number that exceeds neither the budget nor the bases written before plus the call's output space, and
 -- for which ceil((q + k · b) / 8) is at most the bytes taken before plus the source's length; the bytes taken in all are then ceil((q + k · b) / 8)
@@ -135,9 +135,9 @@ pub record Record : Type 0 where
       Finished l →
       (e : EncodeCall) →
       AtOnce l e →
-      (e.result ≡ Encoded.Wrote (length (bytes_in l))) × (afterwards e ≡ front (bytes_in l) (before e))
+      (e.result ≡ Ok (length (bytes_in l))) × (afterwards e ≡ front (bytes_in l) (before e))
   -- whatever text it accepts, it packs
-  pub encodes : (e : EncodeCall) (count : ℕ) → e.result ≡ Encoded.Wrote count → Packed (alphabet_for e) (fold_for e) (text_for e) (take count (afterwards e))
+  pub encodes : (e : EncodeCall) (count : ℕ) → e.result ≡ Ok count → Packed (alphabet_for e) (fold_for e) (text_for e) (take count (afterwards e))
   -- for s < e ≤ n, each decoder, set to that window and lent the bytes `byte_range_for_bases` names (from 0 to that range's end where byte_offset is fixed at
   -- 0), returns symbols s to e − 1, whatever the bits outside those symbols' own hold; so the covered read refuses none of these windows, by 18 (request A7) or else
   pub decoders : (l : EncoderList) (w : Window l) (c : DecoderCall) → Set l w c → Gives l w (handed c)
@@ -146,7 +146,7 @@ pub record Record : Type 0 where
   -- with k and the bytes taken by document 01's count, as every stream's list, its window's or not
   pub counts : (t : StreamList) → Counted t
   -- that is: nothing while the skip is due and no byte has come, and from then on the largest number
-  pub waits : (t : StreamList) (c : ReadCall) → GoesOn t c → taken_in t + length (source_for c) < bytes_for (skip_of t) → c.result ≡ Streamed.Moved 0 0 Hungry (state_for c)
+  pub waits : (t : StreamList) (c : ReadCall) → GoesOn t c → taken_in t + length (source_for c) < bytes_for (skip_of t) → c.result ≡ Ok (record { taken = 0; written = 0; status = Hungry; next = state_for c })
   pub largest :
       (t : StreamList) (c : ReadCall) → GoesOn t c → bytes_for (skip_of t) ≤ taken_in t + length (source_for c) → Largest t c (length (bases_in t) + wrote_by c.result)
   -- two sequences of members of one alphabet, by one choice to fold, have equal packed bytes exactly when one is the other followed by zero or more symbols of

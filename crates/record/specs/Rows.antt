@@ -2,7 +2,7 @@
 -- the words settle and no starred row shows: each status, each bound, and which question comes first where two are answered by no; for request A1 what
 -- comes of folding, for request A5 how non-members are counted, for request A7 which codes the covered read refuses, for request A9 what guesses come to, for request A10
 -- what is told of a piece before it is packed. One list of calls and what comes of them, in numbers and texts that are written out.
-use Rattle.std.specs.Prelude.{ℕ, ◌≡◌, Bool, true, false, List, [], ◌∷◌, map, length, replicate}
+use Rattle.std.specs.Prelude.{ℕ, ◌≡◌, Bool, true, false, List, [], ◌∷◌, map, length, replicate, Result, Ok, Err, Option, Some, None}
 use Prim.Native.String.{String}
 use Rattle.bits.specs.Tables.{bytes_of}
 use Rattle.bits.specs.Memory.{front}
@@ -14,7 +14,6 @@ use Rattle.alphabet.specs.Names.{display_name_of, number_of, kind_of, named_at}
 use Rattle.alphabet.specs.Guess.{guess_of, guesser_update_at, guess_at}
 use Rattle.alphabet.specs.Genome.{later_at, latest}
 use Rattle.alphabet.specs.Answers.{named_reply, guesser_updated_reply, guessed_reply}
-use Rattle.packing.specs.declared.first.First.{First}
 use Rattle.packing.specs.declared.encoder.SequenceEncoder.{SequenceEncoder}
 use Rattle.packing.specs.declared.encoder.Updated.{Updated}
 use Rattle.packing.specs.Encode.{encode_at, encode_memory, fresh_encoder, update_at, finalize_at}
@@ -22,12 +21,14 @@ use Rattle.packing.specs.Range.{range_at}
 use Rattle.packing.specs.Answers.{encoded_reply, updated_reply, finalized_reply, range_reply}
 use Rattle.windows.specs.Window.{read_at, read_memory, covered_at, covered_memory}
 use Rattle.windows.specs.Answers.{read_reply}
-use Rattle.streaming.specs.declared.decoder.StreamStarted.{StreamStarted}
 use Rattle.streaming.specs.Stream.{start_stream_at, stream_at, stream_memory, end_at}
 use Rattle.streaming.specs.Answers.{stream_started_reply, streamed_reply, ended_reply}
 use Rattle.streaming.specs.Count.{next_by}
 use Rattle.record.specs.Calls as calls
 use Rattle.record.specs.Runs.{next_encoder, run}
+use Rattle.alphabet.specs.declared.refusal.Refusal.{Refusal}
+use Rattle.alphabet.specs.declared.refusal.Refused.{Refused}
+use Rattle.packing.specs.declared.stranger.Stranger.{Stranger}
 
 -- ---- rows
 
@@ -94,10 +95,10 @@ covers k lent start end =
     leaves (read_reply (covered_at (number_of k) lent 0 start end 9)) (covered_memory (number_of k) lent 0 start end (blank 9))
 
 -- the state that an accepted `new` returned, with a source and memory of `room` bytes, and the end call behind it
-abbrev pub streamed : StreamStarted → List ℕ → ℕ → Told
-streamed (StreamStarted.Fresh s) source room =
+abbrev pub streamed : Result StreamingDecoder Refusal → List ℕ → ℕ → Told
+streamed (Ok s) source room =
     streams (streamed_reply (stream_at s source room)) (stream_memory s source (blank room)) (ended_reply (end_at (next_by (stream_at s source room))))
-streamed (StreamStarted.Refused q) source room = tells (refusal_reply q)
+streamed (Err q) source room = tells (refusal_reply q)
 
 -- an alphabet, a skip and a budget; a source and the length of the output memory
 abbrev pub stream : AlphabetType → ℕ → ℕ → List ℕ → ℕ → Told
@@ -145,14 +146,17 @@ masked mask fold = tells (guessed_reply (guess_at (record { acc = mask; fold = f
 abbrev pub sees : ℕ → Bool → String → Told
 sees mask fold text = tells (guesser_updated_reply (guesser_update_at (record { acc = mask; fold = fold }) (bytes_of text)))
 
-abbrev pub encoder : AlphabetType → ℕ → ℕ → ℕ → First → ℕ → Bool → SequenceEncoder
+abbrev pub stray : ℕ → ℕ → Option Stranger
+stray position byte = Some (record { position = position; byte = byte })
+
+abbrev pub encoder : AlphabetType → ℕ → ℕ → ℕ → Option Stranger → ℕ → Bool → SequenceEncoder
 encoder k seen bits pending first count fold =
     record { alphabet = k; seen = seen; bits = bits; pending = pending; bad = record { first = first; count = count }; fold = fold }
 
 abbrev pub update : SequenceEncoder → String → ℕ → Told
 update s piece room = tells (updated_reply (update_at s (bytes_of piece) room))
 
-abbrev pub asked : Updated → Told
+abbrev pub asked : Result Updated (Refused SequenceEncoder) → Told
 asked answer = foretells (updated_reply answer) (next_encoder answer)
 
 abbrev pub ask : SequenceEncoder → String → ℕ → Told
@@ -240,8 +244,8 @@ rows =
     ∷ read 0 0 0 1152921504606846977 0 gives no 2
     ∷ read 0 1152921504606846976 0 1 1 gives yes (1 ∷ [])
     ∷ read 0 1152921504606846977 0 1 1 gives no 2
-    ∷ update (encoder Ascii 1152921504606846975 0 0 First.Nothing 0 keeping) "A" 1 gives yes (1 ∷ [])
-    ∷ update (encoder Ascii 1152921504606846976 0 0 First.Nothing 0 keeping) "A" 1 gives no 2
+    ∷ update (encoder Ascii 1152921504606846975 0 0 None 0 keeping) "A" 1 gives yes (1 ∷ [])
+    ∷ update (encoder Ascii 1152921504606846976 0 0 None 0 keeping) "A" 1 gives no 2
     -- `byte_range_for_bases`: bits at most 8; 9 before 2
     ∷ range 0 1 9 gives no 9
     ∷ range 1152921504606846977 0 9 gives no 9
@@ -293,21 +297,21 @@ rows =
     ∷ masked 31 keeping gives yes (0 ∷ [])
     ∷ masked 32 keeping gives no 1
     -- the encoder's state: symbols seen, pending bit count, pending value; a first non-member that is a member, stands at `seen`, or stands below it
-    ∷ update (encoder Ascii 1152921504606846977 0 0 First.Nothing 0 keeping) "" 0 gives no 1
-    ∷ update (encoder Dna2bit 1 0 0 First.Nothing 0 keeping) "" 0 gives no 1
-    ∷ update (encoder Dna2bit 1 2 4 First.Nothing 0 keeping) "" 0 gives no 1
-    ∷ update (encoder Dna2bit 1 2 3 First.Nothing 0 keeping) "" 0 gives yes (0 ∷ [])
-    ∷ finalize (encoder Dna2bit 1 2 3 (First.At 0 0x41) 1 keeping) 1 gives no 1
-    ∷ finalize (encoder Dna2bit 1 2 3 (First.At 1 0x4e) 1 keeping) 1 gives no 1
-    ∷ finalize (encoder Dna2bit 1 2 3 (First.At 0 0x4e) 1 keeping) 1 gives tells (refused 5 (0 ∷ 0x4e ∷ 1 ∷ []))
+    ∷ update (encoder Ascii 1152921504606846977 0 0 None 0 keeping) "" 0 gives no 1
+    ∷ update (encoder Dna2bit 1 0 0 None 0 keeping) "" 0 gives no 1
+    ∷ update (encoder Dna2bit 1 2 4 None 0 keeping) "" 0 gives no 1
+    ∷ update (encoder Dna2bit 1 2 3 None 0 keeping) "" 0 gives yes (0 ∷ [])
+    ∷ finalize (encoder Dna2bit 1 2 3 (stray 0 0x41) 1 keeping) 1 gives no 1
+    ∷ finalize (encoder Dna2bit 1 2 3 (stray 1 0x4e) 1 keeping) 1 gives no 1
+    ∷ finalize (encoder Dna2bit 1 2 3 (stray 0 0x4e) 1 keeping) 1 gives tells (refused 5 (0 ∷ 0x4e ∷ 1 ∷ []))
     -- `update`: 1 before 2 and 4, 2 before 4
-    ∷ update (encoder Ascii 1152921504606846976 1 0 First.Nothing 0 keeping) "A" 1 gives no 1
-    ∷ update (encoder Dna2bit 1 0 0 First.Nothing 0 keeping) "ACGT" 0 gives no 1
-    ∷ update (encoder Ascii 1152921504606846976 0 0 First.Nothing 0 keeping) "A" 0 gives no 2
+    ∷ update (encoder Ascii 1152921504606846976 1 0 None 0 keeping) "A" 1 gives no 1
+    ∷ update (encoder Dna2bit 1 0 0 None 0 keeping) "ACGT" 0 gives no 1
+    ∷ update (encoder Ascii 1152921504606846976 0 0 None 0 keeping) "A" 0 gives no 2
     -- `finalize`: 1 before 5 (above) and 4, 5 before 4
-    ∷ finalize (encoder Dna2bit 1 2 4 First.Nothing 0 keeping) 0 gives no 1
-    ∷ finalize (encoder Dna2bit 1 2 3 First.Nothing 0 keeping) 0 gives no 4
-    ∷ finalize (encoder Dna2bit 1 2 3 (First.At 0 0x4e) 1 keeping) 0 gives tells (refused 5 (0 ∷ 0x4e ∷ 1 ∷ []))
+    ∷ finalize (encoder Dna2bit 1 2 4 None 0 keeping) 0 gives no 1
+    ∷ finalize (encoder Dna2bit 1 2 3 None 0 keeping) 0 gives no 4
+    ∷ finalize (encoder Dna2bit 1 2 3 (stray 0 0x4e) 1 keeping) 0 gives tells (refused 5 (0 ∷ 0x4e ∷ 1 ∷ []))
     -- the stream's state: skip, pending bit count, pending value, nothing pending while the skip is due; 1 before 7
     ∷ end Dna2bit 0 0 7 127 gives yes []
     ∷ end Dna2bit 0 0 7 128 gives no 1
@@ -340,9 +344,9 @@ rows =
     ∷ pieces Dna2bit folding "acgtA" "cT" gives joins (accepted (1 ∷ []) ∷ accepted (0 ∷ []) ∷ accepted (1 ∷ []) ∷ []) (0x9c ∷ 0x90 ∷ [])
     ∷ pieces Dna2bit keeping "ACGTA" "cT" gives joins (accepted (1 ∷ []) ∷ accepted (0 ∷ []) ∷ refused 5 (5 ∷ 0x63 ∷ 1 ∷ []) ∷ []) (0x9c ∷ [])
     -- the encoder's state: a first non-member is none by the state's own choice
-    ∷ finalize (encoder Dna2bit 1 2 3 (First.At 0 0x61) 1 keeping) 1 gives tells (refused 5 (0 ∷ 0x61 ∷ 1 ∷ []))
-    ∷ finalize (encoder Dna2bit 1 2 3 (First.At 0 0x61) 1 folding) 1 gives no 1
-    ∷ finalize (encoder Dna2bit 1 2 3 (First.At 0 0x6e) 1 folding) 1 gives tells (refused 5 (0 ∷ 0x6e ∷ 1 ∷ []))
+    ∷ finalize (encoder Dna2bit 1 2 3 (stray 0 0x61) 1 keeping) 1 gives tells (refused 5 (0 ∷ 0x61 ∷ 1 ∷ []))
+    ∷ finalize (encoder Dna2bit 1 2 3 (stray 0 0x61) 1 folding) 1 gives no 1
+    ∷ finalize (encoder Dna2bit 1 2 3 (stray 0 0x6e) 1 folding) 1 gives tells (refused 5 (0 ∷ 0x6e ∷ 1 ∷ []))
     -- non-members are counted over the whole text, by the choice to fold, and over all pieces
     ∷ packs Dna2bit keeping "NACGTNN" gives refuses 5 (0 ∷ 0x4e ∷ 3 ∷ [])
     ∷ packs Dna2bit keeping "ACnaN" gives refuses 5 (2 ∷ 0x6e ∷ 3 ∷ [])
@@ -350,11 +354,11 @@ rows =
     ∷ pieces Dna2bit keeping "ACNTN" "NT" gives joins (accepted (1 ∷ []) ∷ accepted (0 ∷ []) ∷ refused 5 (2 ∷ 0x4e ∷ 3 ∷ []) ∷ []) (0x9c ∷ [])
     ∷ pieces Dna2bit keeping "ACGTA" "NNT" gives joins (accepted (1 ∷ []) ∷ accepted (1 ∷ []) ∷ refused 5 (5 ∷ 0x4e ∷ 2 ∷ []) ∷ []) (0x9c ∷ 0xbc ∷ [])
     -- the encoder's state: a count without a first non-member, a first one without a count, as many as were seen from it on, one more
-    ∷ finalize (encoder Dna2bit 3 6 0 First.Nothing 1 keeping) 1 gives no 1
-    ∷ finalize (encoder Dna2bit 3 6 0 (First.At 1 0x4e) 0 keeping) 1 gives no 1
-    ∷ finalize (encoder Dna2bit 3 6 0 (First.At 1 0x4e) 2 keeping) 1 gives tells (refused 5 (1 ∷ 0x4e ∷ 2 ∷ []))
-    ∷ finalize (encoder Dna2bit 3 6 0 (First.At 1 0x4e) 3 keeping) 1 gives no 1
-    ∷ update (encoder Dna2bit 3 6 0 (First.At 3 0x4e) 1 keeping) "" 0 gives no 1
+    ∷ finalize (encoder Dna2bit 3 6 0 None 1 keeping) 1 gives no 1
+    ∷ finalize (encoder Dna2bit 3 6 0 (stray 1 0x4e) 0 keeping) 1 gives no 1
+    ∷ finalize (encoder Dna2bit 3 6 0 (stray 1 0x4e) 2 keeping) 1 gives tells (refused 5 (1 ∷ 0x4e ∷ 2 ∷ []))
+    ∷ finalize (encoder Dna2bit 3 6 0 (stray 1 0x4e) 3 keeping) 1 gives no 1
+    ∷ update (encoder Dna2bit 3 6 0 (stray 3 0x4e) 1 keeping) "" 0 gives no 1
     -- the later of two alphabets, Unknown last, whichever comes first; 8 for either number
     ∷ later 0 0 gives yes (0 ∷ [])
     ∷ later 0 4 gives yes (4 ∷ [])
@@ -377,18 +381,18 @@ rows =
     ∷ later 0 1 gives yes (1 ∷ [])
     -- a piece asked about: with no memory 4 tells that a byte is completed, and a piece that completes none is accepted; with enough the count is that of the bytes
     -- that will be used, whatever the length
-    ∷ ask (encoder Dna2bit 0 0 0 First.Nothing 0 keeping) "ACGTA" 0 gives foretells (refused 4 []) (encoder Dna2bit 0 0 0 First.Nothing 0 keeping)
-    ∷ ask (encoder Dna2bit 0 0 0 First.Nothing 0 keeping) "ACGTA" 1 gives foretells (accepted (1 ∷ [])) (encoder Dna2bit 5 2 2 First.Nothing 0 keeping)
-    ∷ ask (encoder Dna2bit 0 0 0 First.Nothing 0 keeping) "ACGTA" 18446744073709551615 gives foretells (accepted (1 ∷ [])) (encoder Dna2bit 5 2 2 First.Nothing 0 keeping)
-    ∷ ask (encoder Dna2bit 0 0 0 First.Nothing 0 keeping) "ACG" 0 gives foretells (accepted (0 ∷ [])) (encoder Dna2bit 3 6 39 First.Nothing 0 keeping)
+    ∷ ask (encoder Dna2bit 0 0 0 None 0 keeping) "ACGTA" 0 gives foretells (refused 4 []) (encoder Dna2bit 0 0 0 None 0 keeping)
+    ∷ ask (encoder Dna2bit 0 0 0 None 0 keeping) "ACGTA" 1 gives foretells (accepted (1 ∷ [])) (encoder Dna2bit 5 2 2 None 0 keeping)
+    ∷ ask (encoder Dna2bit 0 0 0 None 0 keeping) "ACGTA" 18446744073709551615 gives foretells (accepted (1 ∷ [])) (encoder Dna2bit 5 2 2 None 0 keeping)
+    ∷ ask (encoder Dna2bit 0 0 0 None 0 keeping) "ACG" 0 gives foretells (accepted (0 ∷ [])) (encoder Dna2bit 3 6 39 None 0 keeping)
     -- behind bits that pend; in three bits, where a code crosses a byte's end
-    ∷ ask (encoder Dna2bit 1 2 2 First.Nothing 0 keeping) "CGT" 0 gives foretells (refused 4 []) (encoder Dna2bit 1 2 2 First.Nothing 0 keeping)
-    ∷ ask (encoder Dna2bit 1 2 2 First.Nothing 0 keeping) "CGT" 1 gives foretells (accepted (1 ∷ [])) (encoder Dna2bit 4 0 0 First.Nothing 0 keeping)
-    ∷ ask (encoder Dna3bit 2 6 1 First.Nothing 0 keeping) "GTN" 1 gives foretells (accepted (1 ∷ [])) (encoder Dna3bit 5 7 28 First.Nothing 0 keeping)
+    ∷ ask (encoder Dna2bit 1 2 2 None 0 keeping) "CGT" 0 gives foretells (refused 4 []) (encoder Dna2bit 1 2 2 None 0 keeping)
+    ∷ ask (encoder Dna2bit 1 2 2 None 0 keeping) "CGT" 1 gives foretells (accepted (1 ∷ [])) (encoder Dna2bit 4 0 0 None 0 keeping)
+    ∷ ask (encoder Dna3bit 2 6 1 None 0 keeping) "GTN" 1 gives foretells (accepted (1 ∷ [])) (encoder Dna3bit 5 7 28 None 0 keeping)
     -- non-members are in the next state and refuse nothing; which they are goes by the choice to fold
-    ∷ ask (encoder Dna2bit 4 0 0 First.Nothing 0 keeping) "aCNT" 1 gives foretells (accepted (1 ∷ [])) (encoder Dna2bit 8 0 0 (First.At 4 0x61) 2 keeping)
-    ∷ ask (encoder Dna2bit 4 0 0 First.Nothing 0 folding) "aCNT" 1 gives foretells (accepted (1 ∷ [])) (encoder Dna2bit 8 0 0 (First.At 6 0x4e) 1 folding)
+    ∷ ask (encoder Dna2bit 4 0 0 None 0 keeping) "aCNT" 1 gives foretells (accepted (1 ∷ [])) (encoder Dna2bit 8 0 0 (stray 4 0x61) 2 keeping)
+    ∷ ask (encoder Dna2bit 4 0 0 None 0 folding) "aCNT" 1 gives foretells (accepted (1 ∷ [])) (encoder Dna2bit 8 0 0 (stray 6 0x4e) 1 folding)
     -- 1 before 2 and 4, 2 before 4, whatever the length
-    ∷ ask (encoder Ascii 1152921504606846976 1 0 First.Nothing 0 keeping) "A" 0 gives foretells (refused 1 []) (encoder Ascii 1152921504606846976 1 0 First.Nothing 0 keeping)
-    ∷ ask (encoder Ascii 1152921504606846976 0 0 First.Nothing 0 keeping) "A" 0 gives foretells (refused 2 []) (encoder Ascii 1152921504606846976 0 0 First.Nothing 0 keeping)
+    ∷ ask (encoder Ascii 1152921504606846976 1 0 None 0 keeping) "A" 0 gives foretells (refused 1 []) (encoder Ascii 1152921504606846976 1 0 None 0 keeping)
+    ∷ ask (encoder Ascii 1152921504606846976 0 0 None 0 keeping) "A" 0 gives foretells (refused 2 []) (encoder Ascii 1152921504606846976 0 0 None 0 keeping)
     ∷ []

@@ -17,40 +17,58 @@ pub enum Function {
     OfStreams(Streams),
 }
 
+// Their names. A table, since a match on 27 texts takes minutes to prove.
+const NAMES: [(&str, Function); 27] = [
+    ("abi_version", Function::OfKinds(Kinds::AbiVersion)),
+    ("bits_per_symbol", Function::OfKinds(Kinds::BitsPerSymbol)),
+    ("contains", Function::OfKinds(Kinds::Contains)),
+    ("display_name", Function::OfKinds(Kinds::DisplayName)),
+    ("guesser_new", Function::OfKinds(Kinds::GuesserNew)),
+    ("guesser_update", Function::OfKinds(Kinds::GuesserUpdate)),
+    ("guesser_guess", Function::OfKinds(Kinds::GuesserGuess)),
+    ("guess_alphabet", Function::OfKinds(Kinds::GuessAlphabet)),
+    ("later_alphabet", Function::OfKinds(Kinds::LaterAlphabet)),
+    ("encoder_new", Function::OfEncoders(Encoders::New)),
+    ("encoder_update", Function::OfEncoders(Encoders::Update)),
+    ("encoder_finalize", Function::OfEncoders(Encoders::Finalize)),
+    (
+        "encode_sequence",
+        Function::OfEncoders(Encoders::EncodeSequence),
+    ),
+    (
+        "byte_range_for_bases",
+        Function::OfEncoders(Encoders::ByteRangeForBases),
+    ),
+    ("encoder_ask", Function::OfEncoders(Encoders::Ask)),
+    (
+        "decode_substring_from_bytes_at_offset",
+        Function::OfReads(Reads::SubstringAtOffset),
+    ),
+    (
+        "decode_substring_from_bytes",
+        Function::OfReads(Reads::Substring),
+    ),
+    ("decode_string_from_bytes", Function::OfReads(Reads::String)),
+    ("decode_covered", Function::OfReads(Reads::Covered)),
+    ("decode_rolling", Function::OfReads(Reads::Rolling)),
+    ("decode_2bit", Function::OfReads(Reads::TwoBit)),
+    ("decode_3bit", Function::OfReads(Reads::ThreeBit)),
+    ("decode_4bit", Function::OfReads(Reads::FourBit)),
+    ("decode_5bit", Function::OfReads(Reads::FiveBit)),
+    ("stream_new", Function::OfStreams(Streams::New)),
+    ("stream_read", Function::OfStreams(Streams::Read)),
+    ("stream_end", Function::OfStreams(Streams::End)),
+];
+
 impl TryFrom<&[u8]> for Function {
     type Error = LineError;
 
     fn try_from(name: &[u8]) -> Result<Function, LineError> {
-        Ok(match name {
-            b"abi_version" => Function::OfKinds(Kinds::AbiVersion),
-            b"bits_per_symbol" => Function::OfKinds(Kinds::BitsPerSymbol),
-            b"contains" => Function::OfKinds(Kinds::Contains),
-            b"display_name" => Function::OfKinds(Kinds::DisplayName),
-            b"guesser_new" => Function::OfKinds(Kinds::GuesserNew),
-            b"guesser_update" => Function::OfKinds(Kinds::GuesserUpdate),
-            b"guesser_guess" => Function::OfKinds(Kinds::GuesserGuess),
-            b"guess_alphabet" => Function::OfKinds(Kinds::GuessAlphabet),
-            b"later_alphabet" => Function::OfKinds(Kinds::LaterAlphabet),
-            b"encoder_new" => Function::OfEncoders(Encoders::New),
-            b"encoder_update" => Function::OfEncoders(Encoders::Update),
-            b"encoder_finalize" => Function::OfEncoders(Encoders::Finalize),
-            b"encode_sequence" => Function::OfEncoders(Encoders::EncodeSequence),
-            b"byte_range_for_bases" => Function::OfEncoders(Encoders::ByteRangeForBases),
-            b"encoder_ask" => Function::OfEncoders(Encoders::Ask),
-            b"decode_substring_from_bytes_at_offset" => Function::OfReads(Reads::SubstringAtOffset),
-            b"decode_substring_from_bytes" => Function::OfReads(Reads::Substring),
-            b"decode_string_from_bytes" => Function::OfReads(Reads::String),
-            b"decode_covered" => Function::OfReads(Reads::Covered),
-            b"decode_rolling" => Function::OfReads(Reads::Rolling),
-            b"decode_2bit" => Function::OfReads(Reads::TwoBit),
-            b"decode_3bit" => Function::OfReads(Reads::ThreeBit),
-            b"decode_4bit" => Function::OfReads(Reads::FourBit),
-            b"decode_5bit" => Function::OfReads(Reads::FiveBit),
-            b"stream_new" => Function::OfStreams(Streams::New),
-            b"stream_read" => Function::OfStreams(Streams::Read),
-            b"stream_end" => Function::OfStreams(Streams::End),
-            _ => return Err(LineError::NoCall),
-        })
+        NAMES
+            .iter()
+            .find(|(known, _)| known.as_bytes() == name)
+            .map(|(_, function)| *function)
+            .ok_or(LineError::NoCall)
     }
 }
 

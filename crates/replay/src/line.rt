@@ -1,5 +1,7 @@
 // One line of the list: read, called, compared.
+ghost use Rattle.std.specs.Prelude.{◌≡◌, take, drop, map, vec_len, IfOk};
 ghost use Rattle.replay.specs.Compared.{Agreeing};
+ghost use Rattle.replay.specs.Fields.{written};
 
 use crate::call::{Answer, Call, Made};
 use crate::error::LineError;
@@ -21,7 +23,10 @@ pub enum Outcome {
 fn read_numbers<'a, 'b>(
     alloc: Global,
     words: &'b [&'a [u8]],
-) -> Result<(Vec<u64>, &'b [&'a [u8]]), AllocError> {
+) -> Result<(Vec<u64>, &'b [&'a [u8]]), AllocError>
+    ensures values { IfOk result (λ r. r.0.items ≡ map (λ word. written word.now) (take (vec_len r.0) words.now)) }
+    ensures behind { IfOk result (λ r. r.1.now ≡ drop (vec_len r.0) words.now) }
+{
     let mut numbers = Vec::new(alloc);
     for (i, word) in words.iter().enumerate() {
         let Some(number) = decimal(word) else {
@@ -29,7 +34,7 @@ fn read_numbers<'a, 'b>(
         };
         numbers.push(number)?;
     }
-    Ok((numbers, &[]))
+    Ok((numbers, &words[words.len()..]))
 }
 
 // The call that a line gives, and the answer that it tells.

@@ -1,5 +1,5 @@
 // Memory that is lent to a call.
-ghost use Rattle.std.specs.Prelude.{◌≡◌, ◌≤◌, take, vec_len};
+ghost use Rattle.std.specs.Prelude.{◌≡◌, ◌≤◌, ◌-◌, take, drop, replicate, vec_len, IfOk};
 
 use crate::error::LineError;
 use crate::word::byte;
@@ -18,7 +18,10 @@ pub struct Memory {
 
 impl Memory {
     // Memory that holds the bytes of a word: two hexadecimal digits each, behind an x.
-    pub fn read(alloc: Global, word: &[u8]) -> Result<Memory, LineError> {
+    pub fn read(alloc: Global, word: &[u8]) -> Result<Memory, LineError>
+        ensures room { IfOk result (λ m. vec_len m.bytes ≡ ROOM) }
+        ensures behind { IfOk result (λ m. drop m.lent m.bytes.items ≡ replicate (ROOM - m.lent) 0xA5) }
+    {
         let digits = word.strip_prefix(b"x").ok_or(LineError::NoCall)?;
         let mut bytes = Vec::with_capacity(alloc, ROOM)?;
         for pair in digits.chunks(2) {

@@ -1,6 +1,7 @@
 -- A block of eight symbols, entry by entry, one by one and two by two.
 use mathlib.Core.Path.{◌≡◌, sym, ap, ◌∙◌}
-use mathlib.Core.List.{List}
+use mathlib.Core.List.{List, [], ◌∷◌}
+use Rattle.std.specs.Int.{w16, to_le_bytes}
 use Prim.Native.Nat.{ℕ, ◌+◌, ◌-◌, ◌*◌, ◌/◌, ◌%◌, ◌^◌, ◌≤◌, ◌<◌}
 use native.Mathlib.Nat.{add-mul, one-mul, mul_assoc, mul_comm, mod-eq_of_lt, mul-le-mul}
 use native.Mathlib.Omega.{arith}
@@ -47,14 +48,12 @@ entry_more f t v block h done e =
 -- ---- pairs of entries
 
 -- one more is laid out
-pub paired_more : (table rows : List ℕ) (b v r : ℕ) → v < length rows → Paired table b v rows → r % 256 ≡ at table (v / 2 ^ b % 2 ^ b) → r / 256 ≡ at table (v % 2 ^ b)
-    → Paired table b (v + 1) (set rows v r)
-paired_more table rows b v r h e f g =
+pub paired_more : (table rows : List ℕ) (b v r : ℕ) → v < length rows → Paired table b v rows
+    → to_le_bytes w16 r ≡ at table (v / 2 ^ b % 2 ^ b) ∷ at table (v % 2 ^ b) ∷ [] → Paired table b (v + 1) (set rows v r)
+paired_more table rows b v r h e f =
     below_more _ _
-    (λ k l.
-    let same : at (set rows v r) k ≡ at rows k = get_or-set_other rows v k r 0 (λ q. omega arith) in
-    (ap (λ (x : ℕ). x % 256) same ∙ (e k l).0, ap (λ (x : ℕ). x / 256) same ∙ (e k l).1))
-    (let new : at (set rows v r) v ≡ r = get_or-set_same rows v r 0 h in (ap (λ (x : ℕ). x % 256) new ∙ f, ap (λ (x : ℕ). x / 256) new ∙ g))
+    (λ k l. ap (to_le_bytes w16) (get_or-set_other rows v k r 0 (λ q. omega arith)) ∙ e k l)
+    (ap (to_le_bytes w16) (get_or-set_same rows v r 0 h) ∙ f)
 
 -- where they stand
 pub pair_behind : (t b : ℕ) → b ≤ 5 → (3 - t) * (b * 2) ≤ 30
@@ -81,11 +80,11 @@ module _ (table rows : List ℕ) (b w t : ℕ) (all : Paired table b (2 ^ (b * 2
   twice : b * 2 ≡ b + b
   twice = omega arith
 
-  pub pair_first : at rows two % 256 ≡ entry_at table b 8 w (t * 2)
+  pub pair_first : at (to_le_bytes w16 (at rows two)) 0 ≡ entry_at table b 8 w (t * 2)
   pair_first =
       let x : ℕ = w / 2 ^ ((3 - t) * (b * 2)) in
       let place : (3 - t) * (b * 2) + b ≡ (8 - 1 - t * 2) * b = first_place b t four in
-      (all two small).0
+      ap (λ (l : List ℕ). at l 0) (all two small)
       ∙ ap (at table)
       (ap (λ (k : ℕ). x % 2 ^ k / 2 ^ b % 2 ^ b) twice
       ∙ ap (λ (k : ℕ). k % 2 ^ b) (field x b b)
@@ -93,9 +92,9 @@ module _ (table rows : List ℕ) (b w t : ℕ) (all : Paired table b (2 ^ (b * 2
       ∙ ap (λ (k : ℕ). k % 2 ^ b) (shr-shr w ((3 - t) * (b * 2)) b)
       ∙ ap (λ (k : ℕ). w / 2 ^ k % 2 ^ b) place)
 
-  pub pair_second : at rows two / 256 ≡ entry_at table b 8 w (t * 2 + 1)
+  pub pair_second : at (to_le_bytes w16 (at rows two)) 1 ≡ entry_at table b 8 w (t * 2 + 1)
   pair_second =
       let x : ℕ = w / 2 ^ ((3 - t) * (b * 2)) in
       let place : (3 - t) * (b * 2) ≡ (8 - 1 - (t * 2 + 1)) * b = second_place b t four in
-      (all two small).1
+      ap (λ (l : List ℕ). at l 1) (all two small)
       ∙ ap (at table) (ap (λ (k : ℕ). x % 2 ^ k % 2 ^ b) twice ∙ mod-mod-pow x b b ∙ ap (λ (k : ℕ). w / 2 ^ k % 2 ^ b) place)

@@ -21,7 +21,8 @@ pub record Level (s : StreamingDecoder) (source : List ℕ) (acc have taken n : 
   pub within : taken ≤ length source
   pub held : acc ≡ word (source_bits s source) (used s n) have
 
--- with bases written, not more than budget and space allow, fewer bits are at hand than a byte has
+-- with bases written, not more than budget and space allow, fewer bits are at hand than a byte has. No invariant of a type: it tells of the memory's length, which
+-- no value of the crate's holds
 pub record Stands (s : StreamingDecoder) (source : List ℕ) (room : ℕ) (f : Flow) : Type 0 where
   pub few : f.have < 8
   pub most : f.written ≤ min s.budget room

@@ -1,5 +1,6 @@
 -- The symbols of a packed alphabet by their codes, as the stream's functions promise them to each other. Document 01 says nothing of it.
-use Rattle.std.specs.Prelude.{ℕ, ◌/◌, ◌%◌, ◌^◌, ◌<◌, ◌≡◌, List, map}
+use Rattle.std.specs.Prelude.{ℕ, ◌/◌, ◌%◌, ◌^◌, ◌<◌, ◌≡◌, List, [], ◌∷◌, map}
+use Rattle.std.specs.Int.{w16, to_le_bytes}
 use Rattle.alphabet.specs.declared.kind.AlphabetType.{AlphabetType}
 use Rattle.alphabet.specs.Symbols.{coding}
 use Rattle.bits.specs.Tables.{tabulate, at}
@@ -13,6 +14,6 @@ decoding k = tabulate 32 (coding k).symbol
 unfoldable pub block_of : AlphabetType → ℕ → ℕ → List ℕ
 block_of k b w = map (at (decoding k)) (fields b 8 w)
 
--- a table's entries two by two, at each number below `all` that two codes write: the first code's in the low half
+-- a table's entries two by two, at each number below `all` that two codes write
 abbrev pub Paired : List ℕ → ℕ → ℕ → List ℕ → Type 0
-Paired table b all rows = (v : ℕ) → v < all → (at rows v % 256 ≡ at table (v / 2 ^ b % 2 ^ b)) × (at rows v / 256 ≡ at table (v % 2 ^ b))
+Paired table b all rows = (v : ℕ) → v < all → to_le_bytes w16 (at rows v) ≡ at table (v / 2 ^ b % 2 ^ b) ∷ at table (v % 2 ^ b) ∷ []

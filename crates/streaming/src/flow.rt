@@ -94,6 +94,7 @@ impl<'a, const B: usize> Packed<'a, B> {
         let from = self.start.flow.taken;
         let mut acc = self.start.flow.acc;
         let count = (self.start.limit(out.len()) / 8).min((source.len() - from) / B);
+        // By number: a turn cuts a part of the source and one of the memory, and of what `chunks_exact_mut` lends no proof knows what is written.
         for k in 0..count {
             let next = from + k * B;
             let bits = gather(&source[next..next + B], acc);
@@ -137,7 +138,6 @@ impl<'a, const B: usize> Packed<'a, B> {
         ensures value { result ≡ all_moved self.now.start.state self.now.start.source.now (length out.old) }
         ensures out_after { out.new ≡ all_filled self.now.start.state self.now.start.source.now out.old }
     {
-        let state = self.start.state;
         let source = self.start.source;
         let limit = self.start.limit(out.len());
         let mut acc = from.acc;
@@ -152,7 +152,7 @@ impl<'a, const B: usize> Packed<'a, B> {
                         taken,
                         written: n,
                     };
-                    return answered(state, end, out.len());
+                    return answered(self.start.state, end, out.len());
                 }
                 acc = push_byte(acc, source[taken]);
                 taken += 1;
@@ -168,10 +168,10 @@ impl<'a, const B: usize> Packed<'a, B> {
             taken,
             written: limit,
         };
-        answered(state, end, out.len())
+        answered(self.start.state, end, out.len())
     }
 
-    // The bases of the call: in blocks, and then one at a time.
+    // The bases of the call: in blocks, and then one by one.
     fn bases(&self, out: &mut [u8]) -> Streamed
         ensures value { result ≡ all_moved self.now.start.state self.now.start.source.now (length out.old) }
         ensures out_after { out.new ≡ all_filled self.now.start.state self.now.start.source.now out.old }

@@ -38,10 +38,10 @@ impl From<Status> for u64 {
     }
 }
 
-// The status once the skip is done, from the budget and the space that are left.
 impl Status {
     ghost use Rattle.streaming.specs.Stream.{status_for};
 
+    // The status once the skip is done, from the budget and the space that are left.
     pub(crate) fn of(budget: u64, room: usize) -> Self
         ensures { result ≡ status_for budget room }
     {

@@ -1,5 +1,6 @@
 // The symbols of a packed alphabet by their codes: one by one, and two by two.
-ghost use Rattle.std.specs.Prelude.{◌≡◌, ◌*◌, ◌/◌, ◌%◌, ◌^◌, ◌<◌, ◌≤◌, length};
+ghost use Rattle.std.specs.Prelude.{◌≡◌, ◌*◌, ◌/◌, ◌%◌, ◌^◌, ◌<◌, ◌≤◌, [], ◌∷◌, length};
+ghost use Rattle.std.specs.Int.{w16, to_le_bytes};
 ghost use Rattle.alphabet.specs.declared.kind.AlphabetType.{AlphabetType};
 ghost use Rattle.alphabet.specs.Symbols.{coding};
 ghost use Rattle.streaming.specs.Symbols.{decoding, block_of, Paired};
@@ -27,7 +28,8 @@ pub(crate) struct Singles<const B: usize> {
     ghost five: { B ≤ 5 },
 }
 
-// The symbols two by two: at each number of twice a code's bits, those of the two codes that it writes, the first in the low half.
+// The symbols two by two: at each number of twice a code's bits, those of the two codes that it writes, as two bytes in one load. There are as many rows as the widest
+// codes need: no const argument is computed from B.
 #[derive(Drop)]
 pub(crate) struct Pairs<const B: usize> {
     pub kind: AlphabetType,
@@ -36,19 +38,11 @@ pub(crate) struct Pairs<const B: usize> {
     ghost paired: { Paired (decoding kind) B (2 ^ (B * 2)) rows },
 }
 
-// Two bytes as one number, the first in its low half.
-fn pair(x: u8, y: u8) -> u16
-    ensures first { result % 256 ≡ x }
-    ensures second { result / 256 ≡ y }
+// Two bytes that are read at once.
+fn pair(first: u8, second: u8) -> u16
+    ensures { to_le_bytes w16 result ≡ first ∷ second ∷ [] }
 {
-    u16::from(x) + u16::from(y) * 256
-}
-
-// The second of the two.
-fn upper(pair: u16) -> u8
-    ensures { result ≡ pair / 256 }
-{
-    (pair / 256) as u8
+    u16::from_le_bytes([first, second])
 }
 
 impl<const B: usize> Singles<B> {
@@ -70,6 +64,7 @@ impl<const B: usize> Singles<B> {
     {
         let mut rows = [0u16; 1024];
         let all = power(B * 2) as usize;
+        // v is the number that is looked up, and its place.
         for v in 0..all {
             rows[v] = pair(
                 self.table.symbols[field(v as u64, B, B)],
@@ -97,10 +92,11 @@ impl<const B: usize> Symbols<B> for Pairs<B> {
     ghost reads = { λ s. s.kind };
 
     fn put_block(&self, codes: u64, block: &mut [u8]) {
+        // By index: of what `chunks_exact_mut` lends no proof knows what is written.
         for t in 0..4usize {
-            let row = self.rows[field(codes, (3 - t) * (B * 2), B * 2)];
-            block[t * 2] = (row % 256) as u8;
-            block[t * 2 + 1] = upper(row);
+            let [first, second] = self.rows[field(codes, (3 - t) * (B * 2), B * 2)].to_le_bytes();
+            block[t * 2] = first;
+            block[t * 2 + 1] = second;
         }
     }
 }

@@ -1,37 +1,24 @@
-use Rattle.std.proofs.Common.{ℕ, ◌+◌, ◌/◌, ◌<◌, List, [], get_or, length, sym, ap, ◌∙◌, arith}
-use Rattle.alphabet.specs.Symbols.{Coding, coding_of}
+use Rattle.std.proofs.Common.{sym, ap, ◌∙◌}
+use Rattle.alphabet.specs.declared.kind.AlphabetType.{AlphabetType}
+use Rattle.alphabet.specs.Symbols.{coding_by, coding_of}
 use Rattle.members.specs.Members.{bad_in}
 use Rattle.members.proofs.Laws.{bad_none}
-use Rattle.members.proofs.Passing.{chunk_at, plain_passed, counted_none, counted_block, counted_few, counted_blocks}
+use Rattle.members.proofs.Passing.{plain_passed}
 use Rattle.members.proofs.count.count_strangers.Goals as goal
+
+pub returns-in-Dna2bit : goal.returns-in-Dna2bit
+returns-in-Dna2bit c = c.count.ensures ∙ ap (λ (k : AlphabetType). bad_in (coding_by c.args.alphabet.fold k) c.args.text.now) (sym c.in-Dna2bit.is)
+
+pub returns-in-Dna3bit : goal.returns-in-Dna3bit
+returns-in-Dna3bit c = c.count-in-Dna3bit.ensures ∙ ap (λ (k : AlphabetType). bad_in (coding_by c.args.alphabet.fold k) c.args.text.now) (sym c.in-Dna3bit.is)
+
+pub returns-in-DnaIupac : goal.returns-in-DnaIupac
+returns-in-DnaIupac c = c.count-in-DnaIupac.ensures ∙ ap (λ (k : AlphabetType). bad_in (coding_by c.args.alphabet.fold k) c.args.text.now) (sym c.in-DnaIupac.is)
+
+pub returns-in-Protein : goal.returns-in-Protein
+returns-in-Protein c = c.count-in-Protein.ensures ∙ ap (λ (k : AlphabetType). bad_in (coding_by c.args.alphabet.fold k) c.args.text.now) (sym c.in-Protein.is)
 
 pub returns-in-Ascii : goal.returns-in-Ascii
 returns-in-Ascii c =
     let p = plain_passed c.args.alphabet.fold c.args.alphabet.kind c.args.text.now (λ i. (c.type_inv.text i).fits) c.in-Ascii.is in
     sym (bad_none (coding_of c.args.alphabet) c.args.text.now p.members)
-
-pub loop-block-init : goal.loop-block-init
-loop-block-init c =
-    let A : Coding = coding_of c.args.alphabet in
-    counted_none A c.args.text.now _ (c.from-sum.ensures ∙ c.strangers.ensures ∙ ap (bad_in A) c.as_chunks.ensures.back)
-
-pub loop-block-preserved : goal.loop-block-preserved
-loop-block-preserved c =
-    let A : Coding = coding_of c.args.alphabet in
-    let o = c.loop-block in
-    let in_turn : o.block-index < length c.args.text.now / 128 = omega (arith, c.loop-block-test.true, c.as_chunks.ensures.front_len) in
-    counted_block A c.args.text.now o.block-index o.sum _ in_turn
-    (c.from-sum-in-loop-block.ensures ∙ c.strangers-in-loop-block.ensures
-    ∙ ap (λ (bs : List (List ℕ)). bad_in A (get_or bs o.block-index [])) c.as_chunks.ensures.front
-    ∙ ap (bad_in A) (chunk_at 128 (length c.args.text.now / 128) c.args.text.now o.block-index in_turn))
-    o.invariant
-
-pub overflow_add-sum : goal.overflow_add-sum
-overflow_add-sum c =
-    let next = loop-block-preserved c in
-    let few = counted_few (coding_of c.args.alphabet) c.args.text.now (c.loop-block.block-index + 1) _ (omega (arith, c.loop-block-test.true, c.as_chunks.ensures.front_len)) next in omega (arith, few)
-
-pub returns : goal.returns
-returns c =
-    counted_blocks (coding_of c.args.alphabet) c.args.text.now c.loop-block.sum c.loop-block.block-index
-    (omega (arith, c.loop-block-test.false, c.loop-block.auto.block-index-end, c.as_chunks.ensures.front_len)) c.loop-block.invariant

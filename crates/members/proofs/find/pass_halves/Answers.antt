@@ -9,8 +9,9 @@ loop-k-init c = halves_none (coding_of c.args.alphabet) c.args.text.now _
 
 pub loop-k-preserved : goal.loop-k-preserved
 loop-k-preserved c =
-    let both = both_true c.all_members-here.result c.all_members-there.result c.if-not-here-there.false in
-    halves_more (coding_of c.args.alphabet) c.args.text.now _ c.loop-k.k refl c.loop-k-test.true (sym c.all_members-here.ensures ∙ both.0) (sym c.all_members-there.ensures ∙ both.1) c.loop-k.invariant
+    let both = both_true c.are_members-here.result c.are_members-there.result c.if-not-here-there.false in
+    halves_more (coding_of c.args.alphabet) c.args.text.now _ c.loop-k.k _ c.as_chunks.ensures.front refl c.loop-k-test.true (sym c.are_members-here.ensures ∙ both.0)
+    (sym c.are_members-there.ensures ∙ both.1) c.loop-k.invariant
 
 pub returns-then-not-here-there : goal.returns-then-not-here-there
 returns-then-not-here-there c = c.loop-k.invariant.first

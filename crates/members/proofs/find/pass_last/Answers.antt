@@ -11,6 +11,6 @@ returns-then-all c =
     elim c.match-last_chunk.branch [
       | in-Some w ↦
           let last = w.in-Some.ensures.cases in
-          passed_last A text c.args.passed 16 _ c.requires last.0 (omega (arith, c.if-text-passed-ge16.false)) last.1.same (sym w.all_members-all.ensures ∙ sym w.all-is ∙ c.if-all.true)
-      | in-None w ↦ passed_rest A text c.args.passed c.requires (sym w.all_members-all-in-None.ensures ∙ sym w.all-is ∙ c.if-all.true)
+          passed_last A text c.args.passed 16 _ c.requires last.0 (omega (arith, c.if-text-passed-ge16.false)) last.1.same (sym w.are_members-all.ensures ∙ sym w.all-is ∙ c.if-all.true)
+      | in-None w ↦ passed_rest A text c.args.passed c.requires (sym w.all_members-all.ensures ∙ sym w.all-is ∙ c.if-all.true)
     ]

@@ -15,11 +15,11 @@ pub bad_from-found-requires : goal.bad_from-found-requires
 bad_from-found-requires c =
     (met c.args.self c.args.piece.now c.args.room (sym c.is_sound.ensures ∙ c.if-not-is_sound.false) c.due.result c.due.ensures c.in-Ok.count c.in-Ok.is).bounded
 
-pub next-next-requires-clause-bounded : goal.next-next-requires-clause-bounded
-next-next-requires-clause-bounded c =
+pub next-requires-clause-bounded : goal.next-requires-clause-bounded
+next-requires-clause-bounded c =
     (met c.args.self c.args.piece.now c.args.room (sym c.is_sound.ensures ∙ c.if-not-is_sound.false) c.due.result c.due.ensures c.in-Ok.count c.in-Ok.is).bounded
 
 pub returns : goal.returns
 returns c =
-    ap (λ (s : SequenceEncoder). Ok (record { count = c.in-Ok.count; next = s })) c.next-next.ensures
+    ap (λ (s : SequenceEncoder). Ok (record { count = c.in-Ok.count; next = s })) c.next.ensures
     ∙ update-fine c.args.self c.args.piece.now c.args.room (sym c.is_sound.ensures ∙ c.if-not-is_sound.false) c.due.result c.due.ensures c.in-Ok.count c.in-Ok.is

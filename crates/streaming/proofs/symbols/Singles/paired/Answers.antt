@@ -1,4 +1,4 @@
-use Rattle.std.proofs.Common.{arith, ◌≡◌, ◌/◌, ◌%◌, ◌^◌, ◌<◌, ◌*◌, length-set, ap, ◌∙◌, ℕ, List}
+use Rattle.std.proofs.Common.{arith, ◌≡◌, ◌/◌, ◌%◌, ◌^◌, ◌<◌, ◌*◌, length-set, ap, ap₂, ◌∙◌, ℕ, List, [], ◌∷◌}
 use lib.Pow.{pow_mono}
 use Rattle.bits.specs.Tables.{at}
 use Rattle.bits.proofs.Shifts.{power_is, low_is, code_lt}
@@ -31,6 +31,6 @@ loop-v-preserved g c =
     let second : c.low.result ≡ v % 2 ^ g.row.B = c.low.ensures ∙ low_is (omega (arith, s.five)) _ in (
       simp length-set c.loop-v.invariant.0,
       paired_more (decoding s.table.kind) c.loop-v.rows g.row.B v c.pair.result (omega (arith, c.loop-v.invariant.0)) c.loop-v.invariant.1
-          (c.pair.ensures.first ∙ ap (at s.table.symbols) first.0 ∙ ap (λ (t : List ℕ). at t (v / 2 ^ g.row.B % 2 ^ g.row.B)) (entries s.table))
-          (c.pair.ensures.second ∙ ap (at s.table.symbols) second ∙ ap (λ (t : List ℕ). at t (v % 2 ^ g.row.B)) (entries s.table)),
+          (c.pair.ensures ∙ ap₂ (λ (x y : ℕ). x ∷ y ∷ []) (ap (at s.table.symbols) first.0 ∙ ap (λ (t : List ℕ). at t (v / 2 ^ g.row.B % 2 ^ g.row.B)) (entries s.table))
+          (ap (at s.table.symbols) second ∙ ap (λ (t : List ℕ). at t (v % 2 ^ g.row.B)) (entries s.table))),
     )
