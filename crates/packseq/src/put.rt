@@ -47,7 +47,8 @@ fn put_printed(text: &[u8], out: &mut [u8]) -> usize
     put_answer(kind, text.len() as u64, answer, &packed, out).unwrap()
 }
 
-// The same for what was read into `buf`: a text that was not read to its end is not printed.
+// The same for what was read into `buf`: a text that was not read to its end is not printed. The count and the buffer come apart, as `output` and its theorems
+// have them.
 #[tactic(auto, unfolding(crate::specs::Printed::output))]
 pub fn put_output(read: io::Result<usize>, buf: &[u8], out: &mut [u8]) -> usize
     requires read_in_bounds { IfOk read (λ len. len ≤ length buf.now) }
