@@ -76,7 +76,7 @@ fn squeeze(c: u32) -> u8
     (((d << 4) + (d >> 16)) % 256) as u8
 }
 
-// The bytes of 64 codes of two bits.
+// The bytes of 64 codes of two bits. (Over `iter_mut` the proof did not tell what is stored: between place and store stand two calls.)
 fn packed16(codes: &[u8; 64]) -> [u8; 16]
     requires { (j : ℕ) → j < 64 → at codes.now j < 4 }
     ensures { result ≡ cut 8 (bit_at 2 (at codes.now)) 0 16 }

@@ -14,6 +14,8 @@ pub fn ones(kind: AlphabetType) -> u8
     (power(kind.bits_per_symbol()) - 1) as u8
 }
 
+// A struct of a table and its alphabet, with `Tabled` as its invariant, was proved and measured: its 256 bytes are copied where it is made, so that 8 bytes of Ascii take half
+// as long again. So table and alphabet are handed on side by side.
 // Gives a table that starts as ones the digits of an alphabet's members. The caller makes the table, and it is written where it lies: handed out by value it would be
 // copied, which a short piece would notice.
 pub fn lay_digits(alphabet: TextAlphabet, table: &mut [u8; 256])
