@@ -122,8 +122,16 @@ impl Masks {
     }
 }
 
-// The same. The bases that a text begins with are passed before the table of masks is laid out: most texts, and most pieces, have nothing else. The scan by
-// chunks is called at two places, so that it stays a function by itself, and who has nothing else does not pay for the registers that it needs.
+// The same, by the masks of what the choice to fold says. A function by itself, so that who has nothing else than bases does not pay for the registers that it needs.
+#[inline(never)]
+fn scan_masked(mask: u8, fold: bool, sequence: &[u8]) -> u8
+    requires { (16 ≤ mask) × (mask ≤ 31) }
+    ensures { result ≡ masked mask (folded fold sequence.now) }
+{
+    Masks::by(fold).scan(mask, sequence)
+}
+
+// The same. The bases that a text begins with are passed before the table of masks is laid out: most texts, and most pieces, have nothing else.
 fn scan(mask: u8, fold: bool, sequence: &[u8]) -> u8
     requires { (16 ≤ mask) × (mask ≤ 31) }
     ensures { result ≡ masked mask (folded fold sequence.now) }
@@ -132,10 +140,7 @@ fn scan(mask: u8, fold: bool, sequence: &[u8]) -> u8
     if sequence.len() <= start {
         return mask;
     }
-    if fold {
-        return Masks::by(true).scan(mask, &sequence[start..]);
-    }
-    Masks::by(false).scan(mask, &sequence[start..])
+    scan_masked(mask, fold, &sequence[start..])
 }
 
 // The guess for a whole text, by the caller's choice to fold: `new`, `update` and `guess` in one. No state is handed from one to the next, since that would cost a

@@ -79,7 +79,8 @@ const PROTEIN_SYMBOLS: [[u8; 2]; 29] = [
 ];
 
 // Gives each symbol's place in a table by the bytes' values the symbol's code. The list is read from its end, so that of two pairs with one symbol the first would
-// count.
+// count. Laid into its caller, so that the compiler stores a list's codes one by one, without a loop: a short piece would notice.
+#[inline(always)]
 fn lay(symbols: &[[u8; 2]], table: &mut [u8; 256])
     ensures { table.new ≡ tabulate 256 (λ v. found symbol_of code_of (at table.old v) symbols.now v) }
 {
@@ -89,6 +90,7 @@ fn lay(symbols: &[[u8; 2]], table: &mut [u8; 256])
 }
 
 // The same, and then each lowercase letter's place gets the entry of its uppercase letter, where that is chosen.
+#[inline(always)]
 fn lay_folded(symbols: &[[u8; 2]], fold: bool, table: &mut [u8; 256])
     ensures { table.new ≡ folded_entries fold (tabulate 256 (λ v. found symbol_of code_of (at table.old v) symbols.now v)) }
 {

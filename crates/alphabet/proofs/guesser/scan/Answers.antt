@@ -1,4 +1,4 @@
-use Rattle.std.proofs.Common.{◌≡◌, ℕ, ◌-◌, ◌≤◌, Bool, List, length, take, drop, sym, ap, ◌∙◌, ap₂, zero-add, arith, length-drop, take_all}
+use Rattle.std.proofs.Common.{◌≡◌, ℕ, ◌-◌, ◌≤◌, Bool, List, length, take, drop, sym, ap, ◌∙◌, zero-add, arith, length-drop, take_all}
 use Rattle.alphabet.specs.Symbols.{folded}
 use Rattle.alphabet.specs.Bases.{Run}
 use Rattle.alphabet.specs.Guess.{masked}
@@ -14,11 +14,11 @@ past-bases fold mask text start h run =
     ap (λ (n : ℕ). masked mask (drop n (folded fold text))) (sym (zero-add start))
     ∙ masked_bases start mask (folded fold text) 0 h (omega (arith, run.within)) run.bases
 
--- and so does the part behind them, as it is lent, by the choice as it stands in a call
-rest-alike : (fold choice : Bool) (mask : ℕ) (text : List ℕ) (start : ℕ) → choice ≡ fold → mask ≤ 31 → Run (folded fold text) start
-    → masked mask (folded choice (take (length text - start) (drop start text))) ≡ masked mask (folded fold text)
-rest-alike fold choice mask text start e h run =
-    ap₂ (λ (f : Bool) (l : List ℕ). masked mask (folded f l)) e (take_all (length text - start) (drop start text) (omega (arith, length-drop start text)))
+-- and so does the part behind them, as it is lent
+rest-alike : (fold : Bool) (mask : ℕ) (text : List ℕ) (start : ℕ) → mask ≤ 31 → Run (folded fold text) start
+    → masked mask (folded fold (take (length text - start) (drop start text))) ≡ masked mask (folded fold text)
+rest-alike fold mask text start h run =
+    ap (λ (l : List ℕ). masked mask (folded fold l)) (take_all (length text - start) (drop start text) (omega (arith, length-drop start text)))
     ∙ ap (masked mask) (folded-drop fold start text)
     ∙ past-bases fold mask text start h run
 
@@ -30,14 +30,8 @@ returns-then-sequence-start c =
     let whole : length text ≤ b.result = omega (arith, c.if-sequence-start.true, length-folded a.fold a.sequence.now) in
     scan_done text a.mask b.result whole (past-bases a.fold a.mask a.sequence.now b.result c.requires.1 b.ensures)
 
-pub returns-then-fold : goal.returns-then-fold
-returns-then-fold c =
-    let a = c.args in
-    let p = c.pass_bases-start in
-    c.scan.ensures ∙ rest-alike a.fold c.by.result.fold a.mask a.sequence.now p.result (c.by.ensures ∙ sym c.if-fold.true) c.requires.1 p.ensures
-
 pub returns : goal.returns
 returns c =
     let a = c.args in
     let p = c.pass_bases-start in
-    c.scan-2.ensures ∙ rest-alike a.fold c.by-2.result.fold a.mask a.sequence.now p.result (c.by-2.ensures ∙ sym c.if-fold.false) c.requires.1 p.ensures
+    c.scan_masked.ensures ∙ rest-alike a.fold a.mask a.sequence.now p.result c.requires.1 p.ensures
