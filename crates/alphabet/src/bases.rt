@@ -32,7 +32,7 @@ fn are_bases(fold: bool, text: &[u8]) -> bool
     all
 }
 
-// Passes the bytes that a text begins with while they stand for bases, 64 at a time, and tells how many.
+// Passes the bytes that a text begins with while they stand for bases, 64 at a time, and tells how many. By number, since a block's place is what is told.
 fn pass_run(fold: bool, text: &[u8]) -> usize
     ensures { Run (folded fold text.now) result }
 {

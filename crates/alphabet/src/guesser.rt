@@ -86,7 +86,7 @@ impl Masks {
     }
 
     // Passes bytes that a text begins with and that leave a mask as it is, and tells how many: bases first, 64 at a time, which leave every mask as it is, and then
-    // eight at a time.
+    // eight at a time. By number, since a place is what is told.
     fn pass_alike(&self, acc: u8, text: &[u8]) -> usize
         requires { acc ≤ 31 }
         ensures within { result ≤ length text.now }

@@ -30,14 +30,14 @@ pub fn push_byte(x: u64, byte: u8) -> u64
     push(x, u64::from(byte), 8)
 }
 
-// The eight bits of x above its n low ones.
+// The eight bits of x above its n low ones. `as`, since no `From` narrows a number, here and in all crates above; nothing is cut off.
 pub fn byte_at(x: u64, n: usize) -> u8
     ensures { result ≡ x / 2 ^ (n % 64) % 256 }
 {
     ((x >> (n % 64)) % 256) as u8
 }
 
-// The b bits of x above its n low ones, as an index into a table.
+// The b bits of x above its n low ones, as an index into a table. `as`, since there is no `From` between u64 and usize, here and in all crates above.
 pub fn field(x: u64, n: usize, b: usize) -> usize
     ensures { result ≡ x / 2 ^ (n % 64) % 2 ^ (b % 64) }
 {

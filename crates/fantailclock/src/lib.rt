@@ -1,4 +1,5 @@
 // The host library: one function for each entry point, over numbers, plain structs and lent memory. The crate fantailclock_c hands them out to C.
+// Alphabets, choices and states are numbers, flags stand beside what they tell of, and lent bytes beside their offset, as the C interface has them (include/fantailclock.h).
 #![tactic(auto)]
 
 mod encoders;

@@ -41,7 +41,7 @@ fn pass<const N: usize>(alphabet: TextAlphabet, text: &[u8]) -> usize
 }
 
 // Passes a long text's halves side by side, a block of each at a time: memory hands out two stretches of a text faster than one. Where a block has a non-member, what
-// was passed of the first half is told.
+// was passed of the first half is told. By number, since a turn reads a block of each half.
 fn pass_halves(alphabet: TextAlphabet, text: &[u8]) -> usize
     ensures { Passed (coding_of alphabet) text.now result }
 {

@@ -55,7 +55,7 @@ fn is_sound_bad(alphabet: TextAlphabet, seen: usize, bad: Bad) -> bool
 }
 
 impl SequenceEncoder {
-    // An encoder that has seen nothing, for an alphabet by its number and the choice to fold.
+    // An encoder that has seen nothing, for an alphabet by its number and the choice to fold. A kind would ask more of callers: `start_encoder_at` says that 8 refuses a number.
     pub fn new(alphabet: u64, fold: bool) -> Result<SequenceEncoder, Refusal>
         ensures { result ≡ start_encoder_at alphabet fold }
     {

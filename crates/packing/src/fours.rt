@@ -98,7 +98,8 @@ fn put_64(fold: bool, clean: bool, text: &[u8], i: usize, out: &mut [u8], w: usi
     out[w..w + 16].copy_from_slice(&packed16(&codes));
 }
 
-// Packs the whole blocks of 64 bytes that a text begins with, and tells how many there are.
+// Packs the whole blocks of 64 bytes that a text begins with, and tells how many there are. By number, here and below, since a turn cuts a part of the text and one of the
+// memory. `clean` is a constant at each call (run.rt).
 pub fn pack_fours(fold: bool, clean: bool, text: &[u8], out: &mut [u8]) -> usize
     requires { (length text.now / 64 * 16 ≤ length out.old) × Clean clean (coding_by fold Dna2bit) text.now }
     ensures { (result ≡ length text.now / 64)

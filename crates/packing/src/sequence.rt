@@ -54,7 +54,8 @@ fn write_packing(alphabet: TextAlphabet, table: &[u8; 256], text: &[u8], out: &m
     }
 }
 
-// The packing of a text, whole, by the choice to fold. A non-member is found before the first byte is stored.
+// The packing of a text, whole, by the choice to fold. A non-member is found before the first byte is stored. The alphabet is a number, and the choice beside it, as in
+// `new` of an encoder: 8 refuses a number by `encode_at`.
 pub fn encode_sequence(
     alphabet: u64,
     fold: bool,

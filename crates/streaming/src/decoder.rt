@@ -27,7 +27,7 @@ pub struct Streamed {
 }
 
 impl StreamingDecoder {
-    // A stream that has taken nothing. A number above 5 is refused by 8, a skip above 7 by 6.
+    // A stream that has taken nothing. A number above 5 is refused by 8, a skip above 7 by 6: narrower types would ask more of callers than `start_stream_at` does.
     pub fn new(alphabet: u64, skip: u64, budget: u64) -> Result<StreamingDecoder, Refusal>
         ensures { result ≡ start_stream_at alphabet skip budget }
     {

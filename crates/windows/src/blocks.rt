@@ -68,6 +68,7 @@ fn blocks<const C: usize, const N: usize>(
     }
     let i = first - lent.offset;
     let count = lent_blocks(lent, i, N).min(out.len() / C);
+    // By number: a turn reads the byte behind its own too, and cuts a part of the memory.
     for m in 0..count {
         let from = i + m * N;
         let w = number(&lent.bytes[from..from + N + 1]);

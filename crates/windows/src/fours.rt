@@ -57,6 +57,7 @@ fn fours(lent: &Lent<'_>, start: usize, out: &mut [u8]) -> usize
     // A four that begins with its byte takes nothing of the next one, which need not be lent.
     let next = (s + 3) / 4;
     let count = lent.bytes.len().saturating_sub(i + next).min(out.len() / 4);
+    // By number: a turn reads two bytes, and cuts a part of the memory; so below, of one byte.
     for n in 0..count {
         let byte = joined(lent.bytes[i + n], lent.bytes[i + n + next], s);
         put_four(byte, &mut out[n * 4..n * 4 + 4]);

@@ -49,6 +49,7 @@ fn pass_many(lent: &Lent<'_>, start: usize, end: usize) -> usize
     let first = bit / 8 - lent.offset;
     let above = 7 - bit % 8;
     let most = (end - start).saturating_sub(4) / 8;
+    // By number: a turn reads eight bytes and goes on by five.
     for n in 0..most {
         let from = first + n * WIDTH;
         if lacks(number(&lent.bytes[from..from + 8]) >> 2, above) {

@@ -1,5 +1,6 @@
 // The reads of a window. All but the covered read take any byte that is not lent for zero, and all that read one alphabet give one answer; the covered read gives
-// it, or refuses.
+// it, or refuses. An alphabet is a number, which question 1 asks about, and bytes and offset are apart: of these `read_at`, `covered_at` and the theorem `engines` speak,
+// and C hands them in so. That they are apart in an engine too is told at `Engine`.
 ghost use Rattle.std.specs.Prelude.{◌≡◌, ◌+◌, ◌^◌, ◌≤◌, length};
 ghost use Rattle.alphabet.specs.Symbols.{coding};
 ghost use Rattle.alphabet.specs.Names.{kind_of};
@@ -154,7 +155,7 @@ pub fn decode_covered(
     Ok(count)
 }
 
-// The engine of Dna2bit: four bases from a byte.
+// The engine of Dna2bit: four bases from a byte. The four engines have a name each, by which C and the theorem `engines` call them.
 pub fn decode_2bit(
     bytes: &[u8],
     byte_offset: usize,
