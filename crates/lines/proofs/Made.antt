@@ -1,5 +1,5 @@
 -- How long each function's lines are.
-use mathlib.Core.Path.{◌≡◌, refl, sym}
+use mathlib.Core.Path.{◌≡◌, refl, sym, subst}
 use mathlib.Core.List.{List, [], ◌∷◌, ◌++◌, append_assoc}
 use Prim.Native.Nat.{ℕ, ◌+◌, ◌*◌, ◌≤◌}
 use native.Mathlib.Omega.{arith}
@@ -11,6 +11,7 @@ use Rattle.alphabet.specs.Names.{display_name_of}
 use Rattle.alphabet.specs.declared.kind.AlphabetType.{AlphabetType}
 use Rattle.alphabet.specs.declared.kind.AlphabetType.TheVariants.{Dna2bit, Dna3bit, DnaIupac, Protein, Ascii, Unknown}
 use Rattle.alphabet.specs.declared.refusal.Refusal.{Refusal}
+use Rattle.alphabet.proofs.Calls.{names}
 use Rattle.lines.specs.Digits.{decimal, hex}
 use Rattle.lines.specs.Lines.{line, packed_lines_of, refused_line_of}
 use Rattle.lines.proofs.Spelling.{decimal_short, hex-length}
@@ -39,13 +40,19 @@ refused_parts q = sym (append_assoc refused_word (decimal (number_in (refusal_re
 -- ---- a packing
 
 pub name_short : (k : AlphabetType) → length (display_name_of k) ≤ 7
-unfolding display_name_of bytes_of
-name_short Dna2bit = lit≤ tt
-name_short Dna3bit = lit≤ tt
-name_short DnaIupac = lit≤ tt
-name_short Protein = lit≤ tt
-name_short Ascii = lit≤ tt
-name_short Unknown = lit≤ tt
+unfolding bytes_of
+name_short = short
+  where
+    told : (k : AlphabetType) (word : List ℕ) → display_name_of k ≡ word → length word ≤ 7 → length (display_name_of k) ≤ 7
+    told k word e h = subst (λ (w : List ℕ). length w ≤ 7) (sym e) h
+
+    short : (k : AlphabetType) → length (display_name_of k) ≤ 7
+    short Dna2bit = told Dna2bit _ names.of_dna2bit (lit≤ tt)
+    short Dna3bit = told Dna3bit _ names.of_dna3bit (lit≤ tt)
+    short DnaIupac = told DnaIupac _ names.of_dna_iupac (lit≤ tt)
+    short Protein = told Protein _ names.of_protein (lit≤ tt)
+    short Ascii = told Ascii _ names.of_ascii (lit≤ tt)
+    short Unknown = told Unknown _ names.of_unknown (lit≤ tt)
 
 module _ (k : AlphabetType) where
   pub packed_length :
