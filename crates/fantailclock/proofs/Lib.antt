@@ -1,3 +1,4 @@
+pub mod Cases
 pub mod Told
 pub mod OwnNo
 pub mod Unfolded
