@@ -28,7 +28,8 @@ const LIMIT: usize = 1_048_576;
 
 fn main(rt: HostRuntime) -> io::Result<()> {
     let mut list = Vec::new(rt.alloc());
-    rt.stdin().take(LIMIT as u64).read_to_end(&mut list)?;
+    // A read that fails ends the list.
+    let _ = rt.stdin().take(LIMIT as u64).read_to_end(&mut list);
     if list.len() == LIMIT {
         return println!(rt; "too long");
     }

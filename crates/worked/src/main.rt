@@ -191,8 +191,7 @@ fn stream(rt: &impl Print) -> Result<()> {
     tell(rt, "end call", next.end().map(|()| "complete"))
 }
 
-fn main(rt: HostRuntime) -> Result<()> {
-    let rt = &rt;
+fn rows(rt: &impl Print) -> Result<()> {
     pack(rt, "UCSC TCAG", Dna2bit, false, "TCAG")?;
     pack(rt, "Dna2bit ACGT", Dna2bit, false, "ACGT")?;
     pack(rt, "Dna3bit ACGTNRYU", Dna3bit, false, "ACGTNRYU")?;
@@ -207,4 +206,9 @@ fn main(rt: HostRuntime) -> Result<()> {
     residues(rt)?;
     stream(rt)?;
     genome(rt)
+}
+
+// What cannot be printed is passed over: a run shows rows, and has no status of its own.
+fn main(rt: HostRuntime) {
+    let _ = rows(&rt);
 }
