@@ -1,4 +1,5 @@
 pub mod Cases
 pub mod Told
+pub mod Hosted
 pub mod OwnNo
 pub mod Unfolded
