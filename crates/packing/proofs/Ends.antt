@@ -424,6 +424,20 @@ module _ (A : Coding) (seen : ℕ) (bad : Bad) where
       → (ltb first.position seen && (ltb 0 bad.count && leb bad.count (seen - first.position))) ≡ sound_bad A seen bad
   sound_at_stranger first e m = sym (ap (λ (f : Option Stranger). sound_first A seen f && sound_count seen f bad.count) e ∙ rw m)
 
+  -- its cases: the first one was not seen yet; it was, and the count alone decides: with none, with some
+  module _ (first : Stranger) (known : bad.first ≡ Some first) (m : A.member first.byte ≡ false) where
+    pub sound_at_unseen : seen ≤ first.position → false ≡ sound_bad A seen bad
+    sound_at_unseen h = sym (rw (le-ltb first.position seen h)) ∙ sound_at_stranger first known m
+
+    pub sound_at_count : first.position < seen → ltb 0 bad.count && leb bad.count (seen - first.position) ≡ sound_bad A seen bad
+    sound_at_count h = sym (rw (lt-ltb first.position seen h)) ∙ sound_at_stranger first known m
+
+    pub sound_at_zero : first.position < seen → bad.count ≡ 0 → false ≡ sound_bad A seen bad
+    sound_at_zero h z = sym (rw (le-ltb 0 bad.count (omega arith))) ∙ sound_at_count h
+
+    pub sound_at_some : first.position < seen → (bad.count ≡ 0 → ⊥) → leb bad.count (seen - first.position) ≡ sound_bad A seen bad
+    sound_at_some h z = sym (rw (lt-ltb 0 bad.count (omega arith))) ∙ sound_at_count h
+
   -- no more of them than symbols
   pub few_bad : sound_bad A seen bad ≡ true → bad.count ≤ seen
   few_bad = go bad.first
