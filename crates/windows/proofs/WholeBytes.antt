@@ -112,17 +112,21 @@ module _ (A : Coding) (lent : List ℕ) (offset c i j k : ℕ) (bytes : Bytes le
       (λ l. ap (λ (m : ℕ). at lent (k + m)) (one l) ∙ of_file 1)
 
 -- bytes pushed one after another (`push_byte`) write the number that they write; up to eight of them nothing falls out
-pub pushed : (byte : ℕ → ℕ) → ((j : ℕ) → byte j < 256) → (n x y : ℕ) → n < 8 → x ≡ word (bit_at 8 byte) 0 (n * 8) → y ≡ x % 2 ^ 56 * 256 + byte n
-    → y ≡ word (bit_at 8 byte) 0 ((n + 1) * 8)
-pushed byte small n x y h e more =
+pub pushed : (byte : ℕ → ℕ) → ((j : ℕ) → byte j < 256) → (j n x : ℕ) → n < 8 → x ≡ word (bit_at 8 byte) (j * 8) (n * 8)
+    → x % 2 ^ 56 * 256 + byte (j + n) ≡ word (bit_at 8 byte) (j * 8) (n * 8 + 8)
+pushed byte small j n x h e =
     let most : n * 8 ≤ 56 = omega arith in
+    let fit : word (bit_at 8 byte) (j * 8) (n * 8) < 2 ^ 56 = lt_of_lt_of_le (word_lt (bit_at 8 byte) (bit_lt 8 byte) (j * 8) (n * 8)) (pow_mono most) in
+    push_byte_is x (byte (j + n)) (rw e fit) ∙ ap (λ (y : ℕ). y * 256 + byte (j + n)) e ∙ sym (word_bytes byte small j n)
+
+-- the same from the first byte on
+pub pushed_first : (byte : ℕ → ℕ) → ((j : ℕ) → byte j < 256) → (n x y : ℕ) → n < 8 → x ≡ word (bit_at 8 byte) 0 (n * 8) → y ≡ x % 2 ^ 56 * 256 + byte n
+    → y ≡ word (bit_at 8 byte) 0 ((n + 1) * 8)
+pushed_first byte small n x y h e more =
     let next : n * 8 + 8 ≡ (n + 1) * 8 = omega arith in
-    let fit : word (bit_at 8 byte) 0 (n * 8) < 2 ^ 56 = lt_of_lt_of_le (word_lt (bit_at 8 byte) (bit_lt 8 byte) 0 (n * 8)) (pow_mono most) in
     more
-    ∙ push_byte_is x (byte n) (rw e fit)
-    ∙ ap (λ (y : ℕ). y * 256 + byte n) e
-    ∙ ap (λ (k : ℕ). word (bit_at 8 byte) 0 (n * 8) * 256 + byte k) (sym (zero-add n))
-    ∙ sym (word_bytes byte small 0 n)
+    ∙ ap (λ (k : ℕ). x % 2 ^ 56 * 256 + byte k) (sym (zero-add n))
+    ∙ pushed byte small 0 n x h e
     ∙ ap (word (bit_at 8 byte) 0) next
 
 -- ---- the symbols of a block, from the table
