@@ -16,7 +16,7 @@ use Rattle.lines.specs.Digits.{digit, decimal_in, decimal, hex}
 
 -- ---- decimal
 
-digit_low : (d : ℕ) → d < 10 → digit d ≡ 48 + d
+pub digit_low : (d : ℕ) → d < 10 → digit d ≡ 48 + d
 unfolding digit bytes_of
 digit_low d h = sym (eqb→eq (48 + d) (digit d) (below (λ k. eqb (48 + k) (digit k)) 10 tt d h))
 

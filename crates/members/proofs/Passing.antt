@@ -79,7 +79,7 @@ module _ (A : Coding) (text : List ℕ) where
           sym (ap (λ (x : ℕ). A.member (at text x)) same) ∙ more.each (j - i) (omega arith)
 
   -- two stretches, of which the first need not begin with the text
-  members_more : (i n m : ℕ) → Members A text i n → Members A text (i + n) m → Members A text i (n + m)
+  pub members_more : (i n m : ℕ) → Members A text i n → Members A text (i + n) m → Members A text i (n + m)
   members_more i n m first more = record { each = λ j l. go j l (dec_lt j n) }
     where
       go : (j : ℕ) → j < n + m → Dec (j < n) → A.member (at text (i + j)) ≡ true
