@@ -23,10 +23,10 @@ fn put_answer(
     ensures value { result ≡ put_count (answered kind count answer packed.now) (length out.old) }
     ensures memory { out.new ≡ put_memory (answered kind count answer packed.now) out.old }
 {
-    match answer {
-        Ok(n) => lines::packed_lines(kind, count, &packed[..n], out),
-        Err(refusal) => lines::refused_line(refusal, out),
-    }
+    let Ok(n) = answer else {
+        return lines::refused_line(answer.unwrap_err(), out);
+    };
+    lines::packed_lines(kind, count, &packed[..n], out)
 }
 
 // Puts the whole output for a text at the front of `out`, and answers how long it is.

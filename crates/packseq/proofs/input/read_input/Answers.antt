@@ -1,24 +1,35 @@
-use Rattle.std.proofs.Common.{rules, arith, length-take-le}
-use Rattle.packseq.proofs.Reading.{taken_more, ended, filled}
+use Rattle.std.proofs.Common.{rules, arith}
+use Rattle.packseq.proofs.Reading.{turned, turned_last}
 use Rattle.packseq.proofs.input.read_input.Goals as goal
 
-pub loop-len-preserved : goal.loop-len-preserved
-loop-len-preserved g c =
-    let fits = rw c.in_ok-more.was at c.read.ensures.bound in
-    let bytes = rw c.in_ok-more.was at c.read.ensures.bytes in
-    record {
-      within = omega (arith, fits.0);
-      long = search rules;
-      taken = taken_more _ _ _ c.loop-len.buf _ _ _ _ (omega arith) fits.0 c.loop-len.invariant.taken bytes.0;
-    }
+pub loop-more-smaller : goal.loop-more-smaller
+loop-more-smaller g c =
+    let l = c.loop-more in
+    let read = c.read.ensures in
+    let judged = rw c.in-More.is at c.in_ok-more.ensures in
+    let next = turned _ _ _ l.buf c.read.new.buf l.len (omega arith) l.invariant.long l.invariant.taken _ _ read.bound read.bytes judged in
+    omega (arith, next.0, next.1)
 
-pub returns-after-loop-len-clause-whole : goal.returns-after-loop-len-clause-whole
-returns-after-loop-len-clause-whole g c =
-    filled _ _ _ c.loop-len.invariant.taken (omega (arith, length-take-le c.loop-len.len c.loop-len.buf (omega arith)))
+pub loop-more-preserved : goal.loop-more-preserved
+loop-more-preserved g c =
+    let l = c.loop-more in
+    let read = c.read.ensures in
+    let judged = rw c.in-More.is at c.in_ok-more.ensures in
+    let next = turned _ _ _ l.buf c.read.new.buf l.len (omega arith) l.invariant.long l.invariant.taken _ _ read.bound read.bytes judged in
+    record { left = next.1; long = search rules; taken = next.2 }
 
-pub returns-then-more-eq0-clause-whole : goal.returns-then-more-eq0-clause-whole
-returns-then-more-eq0-clause-whole g c =
-    let fits = rw c.in_ok-more.was at c.read.ensures.bound in
-    let bytes = rw c.in_ok-more.was at c.read.ensures.bytes in
-    let none = c.if-more-eq0.true in
-    ended _ _ _ _ _ _ _ _ (omega arith) fits.0 c.loop-len.invariant.taken bytes.0 none (bytes.1 none (omega arith)) (omega arith)
+pub returns-in-Whole-clause-within : goal.returns-in-Whole-clause-within
+returns-in-Whole-clause-within g c =
+    let l = c.loop-more in
+    let inv = l.invariant in
+    let read = c.read.ensures in
+    let judged = rw c.in-Whole.is at c.in_ok-more.ensures in
+    (turned_last _ _ _ l.buf c.read.new.buf l.len (omega arith) inv.long inv.taken _ _ read.bound read.bytes inv.left (search rules) judged).0
+
+pub returns-in-Whole-clause-whole : goal.returns-in-Whole-clause-whole
+returns-in-Whole-clause-whole g c =
+    let l = c.loop-more in
+    let inv = l.invariant in
+    let read = c.read.ensures in
+    let judged = rw c.in-Whole.is at c.in_ok-more.ensures in
+    (turned_last _ _ _ l.buf c.read.new.buf l.len (omega arith) inv.long inv.taken _ _ read.bound read.bytes inv.left (search rules) judged).1
