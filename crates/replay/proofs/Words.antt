@@ -1,10 +1,10 @@
--- The place of a byte in a word, and a word's number.
-use Rattle.std.proofs.Common.{◌≡◌, refl, ℕ, ◌+◌, ◌*◌, ◌<◌, ◌≤◌, ◌==◌, IfSome, Some, None, add-one, arith}
-use Rattle.std.proofs.Common.{List, [], ◌∷◌, length, get_or, take, drop, position}
+-- The place of a byte in a word, a word's number, and memory behind what is lent.
+use Rattle.std.proofs.Common.{◌≡◌, refl, sym, ap, ◌∙◌, drop-set-lt, drop-drop, ℕ, ◌+◌, ◌-◌, ◌*◌, ◌<◌, ◌≤◌, ◌==◌, IfSome, Some, None, add-one, arith}
+use Rattle.std.proofs.Common.{List, [], ◌∷◌, length, get_or, take, drop, position, replicate, slice_set}
 use Rattle.std.specs.List.{position_or_len}
 use Rattle.std.proofs.lemmas.List.Recursion.{is_position_or_len}
 use Rattle.std.proofs.lemmas.Grind.{common_steps}
-use Rattle.std.proofs.lemmas.List.{drop_all}
+use Rattle.std.proofs.lemmas.List.{drop_all, drop-replicate}
 use Rattle.std.proofs.Math.Seq.{drop-cons}
 use Rattle.replay.specs.Fields.{index_of, digit_of, written_behind}
 
@@ -43,3 +43,10 @@ written_whole v word i h = rw (drop_all i word h) refl
 -- a line without a space is its name
 pub named_whole : (x : ℕ) (xs : List ℕ) → position (λ (y : ℕ). y == x) xs ≡ None → xs ≡ take (index_of x xs) xs
 named_whole x xs e = let n = place_none x xs e in grind (arith, common_steps)
+
+-- one byte more in front of what is left as it was
+pub behind_more : (bytes : List ℕ) (room i byte blank : ℕ) → drop i bytes ≡ replicate (room - i) blank
+    → drop (i + 1) (slice_set bytes i byte) ≡ replicate (room - (i + 1)) blank
+behind_more bytes room i byte blank h =
+    drop-set-lt (i + 1) bytes i byte (omega arith) ∙ sym (drop-drop 1 i bytes) ∙ ap (drop 1) h ∙ drop-replicate 1 (room - i) blank
+    ∙ ap (λ n. replicate n blank) (omega arith)

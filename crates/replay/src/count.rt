@@ -49,13 +49,13 @@ impl<'a> Tally<'a> {
     }
 
     // A line counts as one of a call, a comment and a bad line, and as no more. The answer is the run that it ended.
-    pub fn count(&mut self, line: &'a [u8], outcome: &Outcome) -> Option<Run<'a>>
+    pub fn count(&mut self, line: &'a [u8], outcome: Outcome) -> Option<Run<'a>>
         requires { lines_of self.old + 1 < 2 ^ 64 }
         ensures { lines_of self.new ≡ lines_of self.old + 1 }
     {
         match outcome {
             Outcome::Agreed => self.count_call(name_of(line), true),
-            Outcome::Differs(_) => self.count_call(name_of(line), false),
+            Outcome::Differs => self.count_call(name_of(line), false),
             Outcome::Comment => {
                 self.comments += 1;
                 None

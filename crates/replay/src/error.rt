@@ -1,20 +1,15 @@
 // Why a line tells no call and its answer.
-use std::alloc::{AllocError, AllocFailed};
+use arrayvec::CapacityError;
 
 #[derive(Clone, Copy, Debug, PartialEq, Eq)]
 pub enum LineError {
     NoCall,
-    OutOfMemory(AllocError),
+    TooMany,
 }
 
-impl From<AllocError> for LineError {
-    fn from(error: AllocError) -> LineError {
-        LineError::OutOfMemory(error)
-    }
-}
-
-impl<T: Drop> From<AllocFailed<T>> for LineError {
-    fn from(error: AllocFailed<T>) -> LineError {
-        LineError::OutOfMemory(error.into())
+// More words or numbers than a line has.
+impl<T: Drop> From<CapacityError<T>> for LineError {
+    fn from(_: CapacityError<T>) -> LineError {
+        LineError::TooMany
     }
 }

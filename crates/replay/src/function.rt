@@ -1,13 +1,13 @@
 // The functions that a line may name.
-ghost use Rattle.std.specs.Prelude.{◌≡◌, IfOk, length};
+ghost use Rattle.std.specs.Prelude.{◌≡◌, OnOk, length};
 ghost use Rattle.replay.specs.Takes.{takes};
 
 use crate::encoders::Encoders;
 use crate::error::LineError;
 use crate::kinds::Kinds;
+use crate::numbers::Numbers;
 use crate::reads::Reads;
 use crate::streams::Streams;
-use std::alloc::Global;
 
 #[derive(Clone, Copy, Debug, PartialEq, Eq)]
 pub enum Function {
@@ -73,22 +73,22 @@ impl TryFrom<&[u8]> for Function {
 }
 
 impl Function {
-    // The numbers that the function answers, if it takes as many as are given. What is lent comes by itself: a struct with a `&mut` in it that is passed on gets
-    // no proof.
+    // Puts the numbers that the function answers in the row, if it takes as many as are given. What is lent comes by itself: a struct with a `&mut` in it that is
+    // passed on gets no proof.
     pub fn answer(
         self,
-        alloc: Global,
         given: &[u64],
         text: &[u8],
         out: &mut [u8],
-    ) -> Result<Vec<u64>, LineError>
-        ensures { IfOk result (λ _. takes self ≡ length given.now) }
+        row: &mut Numbers,
+    ) -> Result<(), LineError>
+        ensures { OnOk result (takes self ≡ length given.now) }
     {
         match self {
-            Function::OfKinds(function) => function.answer(alloc, given, text, out),
-            Function::OfEncoders(function) => function.answer(alloc, given, text, out),
-            Function::OfReads(function) => function.answer(alloc, given, text, out),
-            Function::OfStreams(function) => function.answer(alloc, given, text, out),
+            Function::OfKinds(function) => function.answer(given, text, out, row),
+            Function::OfEncoders(function) => function.answer(given, text, out, row),
+            Function::OfReads(function) => function.answer(given, text, out, row),
+            Function::OfStreams(function) => function.answer(given, text, out, row),
         }
     }
 }

@@ -1,98 +1,100 @@
 // One line of the list: read, called, compared.
-ghost use Rattle.std.specs.Prelude.{◌≡◌, take, drop, map, vec_len, IfOk};
+ghost use Rattle.std.specs.Prelude.{◌≡◌, take, drop, map, IfOk, OnOk};
+ghost use Rattle.arrayvec.specs.ArrayVec.{array_vec_len};
 ghost use Rattle.replay.specs.Compared.{Agreeing};
 ghost use Rattle.replay.specs.Fields.{written};
 
 use crate::call::{Answer, Call, Made};
 use crate::error::LineError;
 use crate::function::Function;
-use crate::memory::Memory;
+use crate::numbers::Numbers;
 use crate::word::decimal;
-use std::alloc::{AllocError, Global};
+use arrayvec::ArrayVec;
 
-// What a line is: a comment, a call whose answer agreed, one whose answer differs, with the port's, or none of these.
-#[derive(Drop)]
+// As many words as a line has at most: a name, eleven numbers, what is lent, who answered, eleven numbers and what is told of the memory.
+const MOST: usize = 27;
+
+// What a line is: a comment, a call whose answer agreed, one whose answer differs, or none of these.
+#[derive(Clone, Copy)]
 pub enum Outcome {
     Comment,
     Agreed,
-    Differs(Answer),
+    Differs,
     Bad,
 }
 
-// The numbers in front, and the words behind them.
+// The words behind the numbers in front, which are read.
 fn read_numbers<'a, 'b>(
-    alloc: Global,
     words: &'b [&'a [u8]],
-) -> Result<(Vec<u64>, &'b [&'a [u8]]), AllocError>
-    ensures values { IfOk result (λ r. r.0.items ≡ map (λ word. written word.now) (take (vec_len r.0) words.now)) }
-    ensures behind { IfOk result (λ r. r.1.now ≡ drop (vec_len r.0) words.now) }
+    numbers: &mut Numbers,
+) -> Result<&'b [&'a [u8]], LineError>
+    ensures values { OnOk result (numbers.new.items ≡ map (λ word. written word.now) (take (array_vec_len numbers.new) words.now)) }
+    ensures behind { IfOk result (λ rest. rest.now ≡ drop (array_vec_len numbers.new) words.now) }
 {
-    let mut numbers = Vec::new(alloc);
+    numbers.clear();
     for (i, word) in words.iter().enumerate() {
         let Some(number) = decimal(word) else {
-            return Ok((numbers, &words[i..]));
+            return Ok(&words[i..]);
         };
-        numbers.push(number)?;
+        numbers.try_push(number)?;
     }
-    Ok((numbers, &words[words.len()..]))
+    Ok(&words[words.len()..])
 }
 
-// The call that a line gives, and the answer that it tells.
-fn read(alloc: Global, line: &[u8]) -> Result<(Call, Answer), LineError> {
-    let words: Vec<&[u8]> = line.split(|byte| *byte == b' ').collect(alloc)?;
+// Reads the call that a line gives, and the answer that it tells. The answer is the call's function.
+fn read(line: &[u8], call: &mut Call, told: &mut Answer) -> Result<Function, LineError> {
+    let mut words = ArrayVec::<&[u8], MOST>::new();
+    for word in line.split(|byte| *byte == b' ') {
+        words.try_push(word)?;
+    }
     let [name, words @ ..] = words.as_slice() else {
         return Err(LineError::NoCall);
     };
-    let (numbers, words) = read_numbers(alloc, words)?;
+    let words = read_numbers(words, &mut call.numbers)?;
     let [text, memory, b"rust" | b"rules", words @ ..] = words else {
         return Err(LineError::NoCall);
     };
-    let (told, words) = read_numbers(alloc, words)?;
+    let words = read_numbers(words, &mut told.numbers)?;
     let [left] = words else {
         return Err(LineError::NoCall);
     };
-    let call = Call {
-        function: Function::try_from(*name)?,
-        numbers,
-        text: Memory::read(alloc, text)?,
-        memory: Memory::read(alloc, memory)?,
-    };
-    let answer = Answer {
-        numbers: told,
-        memory: Memory::read(alloc, left)?,
-    };
-    Ok((call, answer))
+    let function = Function::try_from(*name)?;
+    call.text.read(text)?;
+    call.answer.memory.read(memory)?;
+    told.memory.read(left)?;
+    Ok(function)
 }
 
 // A line is bad that tells fewer or more numbers than the function answers, or another length of memory. The bytes behind the memory lent are compared too.
-fn compared(made: Made, told: &Answer) -> Outcome
-    ensures { Agreeing result made told.now }
+fn compared(made: Made<'_>, told: &Answer) -> Outcome
+    ensures { Agreeing result made.entry told.now }
 {
     let answer = made.answer;
     if answer.numbers.len() != told.numbers.len() || answer.memory.lent != told.memory.lent {
         return Outcome::Bad;
     }
-    if answer == *told {
+    if *answer == *told {
         return Outcome::Agreed;
     }
-    Outcome::Differs(answer)
+    Outcome::Differs
 }
 
 // Makes the call of a line, and compares the answer with the line's.
-fn called(alloc: Global, line: &[u8]) -> Result<Outcome, LineError> {
-    let (call, told) = read(alloc, line)?;
-    let made = call.make(alloc)?;
-    Ok(compared(made, &told))
+fn called(line: &[u8], call: &mut Call, told: &mut Answer) -> Result<Outcome, LineError> {
+    let function = read(line, call, told)?;
+    call.make(function)?;
+    let made = Made {
+        function,
+        numbers: call.numbers.as_slice(),
+        answer: &call.answer,
+    };
+    Ok(compared(made, told))
 }
 
-// What a line is.
-pub fn replayed(alloc: Global, line: &[u8]) -> Result<Outcome, AllocError> {
+// What a line is. Where its answer differs, the port's is the call's.
+pub fn replayed(line: &[u8], call: &mut Call, told: &mut Answer) -> Outcome {
     if line.first() == Some(&b'#') {
-        return Ok(Outcome::Comment);
+        return Outcome::Comment;
     }
-    match called(alloc, line) {
-        Ok(outcome) => Ok(outcome),
-        Err(LineError::NoCall) => Ok(Outcome::Bad),
-        Err(LineError::OutOfMemory(error)) => Err(error),
-    }
+    called(line, call, told).unwrap_or(Outcome::Bad)
 }

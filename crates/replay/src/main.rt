@@ -2,6 +2,8 @@
 // port answers is compared with it. Prints for each function how many lines agreed, and each line that differs or is no call.
 #![tactic(auto)]
 
+ghost use Rattle.std.specs.Prelude.{◌≡◌, ◌≤◌, length};
+
 mod call;
 mod count;
 mod encoders;
@@ -10,6 +12,7 @@ mod function;
 mod kinds;
 mod line;
 mod memory;
+mod numbers;
 mod reads;
 mod replay;
 mod report;
@@ -20,19 +23,41 @@ mod word;
 
 use crate::replay::replay;
 use crate::report::print_total;
-use std::io;
 use std::io::Read;
 
 // The list must be shorter.
 const LIMIT: usize = 1_048_576;
 
-fn main(rt: HostRuntime) -> io::Result<()> {
-    let mut list = Vec::new(rt.alloc());
-    // A read that fails ends the list.
-    let _ = rt.stdin().take(LIMIT as u64).read_to_end(&mut list);
-    if list.len() == LIMIT {
-        return println!(rt; "too long");
+// Memory for the list. By itself, since a proof that sees a literal of a mebibyte runs out of stack.
+fn space() -> [u8; LIMIT]
+    ensures { LIMIT ≡ length result }
+{
+    [0; LIMIT]
+}
+
+// Reads the list to the front of the buffer, and answers how many bytes it is. By hand: `read_to_end` reads into a Vec, whose memory can run out. A read that
+// fails ends the list.
+fn read_list<R: Read>(reader: &mut R, buf: &mut [u8]) -> usize
+    ensures { result ≤ length buf.new }
+{
+    let mut len = 0;
+    while len < buf.len() {
+        let more = reader.read(&mut buf[len..]).unwrap_or(0);
+        if more == 0 {
+            break;
+        }
+        len += more;
     }
-    let tally = replay(&rt, &list)?;
-    print_total(&rt, &tally)
+    len
+}
+
+fn main(rt: HostRuntime) {
+    let mut list = space();
+    let len = read_list(&mut rt.stdin(), &mut list);
+    if len == LIMIT {
+        let _ = println!(rt; "too long");
+        return;
+    }
+    let tally = replay(&rt, &list[..len]);
+    print_total(&rt, &tally);
 }

@@ -1,9 +1,9 @@
 // Memory that is lent to a call.
-ghost use Rattle.std.specs.Prelude.{◌≡◌, ◌≤◌, ◌-◌, take, drop, replicate, vec_len, IfOk};
+ghost use Rattle.std.specs.Prelude.{◌≡◌, ◌≤◌, ◌-◌, length, take, drop, replicate, OnOk};
+ghost use Rattle.replay.specs.declared.memory.TheConstants.{ROOM};
 
 use crate::error::LineError;
 use crate::word::byte;
-use std::alloc::Global;
 
 // As many bytes as are lent at most.
 const ROOM: usize = 320;
@@ -12,32 +12,42 @@ const ROOM: usize = 320;
 // it.
 #[derive(PartialEq, Drop)]
 pub struct Memory {
-    pub bytes: Vec<u8>,
+    pub bytes: [u8; ROOM],
     pub lent: usize,
-    ghost within: { lent ≤ vec_len bytes },
+    ghost within: { lent ≤ ROOM },
 }
 
 impl Memory {
-    // Memory that holds the bytes of a word: two hexadecimal digits each, behind an x.
-    pub fn read(alloc: Global, word: &[u8]) -> Result<Memory, LineError>
-        ensures room { IfOk result (λ m. vec_len m.bytes ≡ ROOM) }
-        ensures behind { IfOk result (λ m. drop m.lent m.bytes.items ≡ replicate (ROOM - m.lent) 0xA5) }
+    // Memory of which nothing is lent.
+    pub fn new() -> Memory
+        ensures { result.lent ≡ 0 }
+    {
+        Memory {
+            bytes: [0xA5; ROOM],
+            lent: 0,
+        }
+    }
+
+    // Takes the bytes of a word: two hexadecimal digits each, behind an x.
+    pub fn read(&mut self, word: &[u8]) -> Result<(), LineError>
+        ensures room { OnOk result (length self.new.bytes ≡ ROOM) }
+        ensures behind { OnOk result (drop self.new.lent self.new.bytes ≡ replicate (ROOM - self.new.lent) 0xA5) }
     {
         let digits = word.strip_prefix(b"x").ok_or(LineError::NoCall)?;
-        let mut bytes = Vec::with_capacity(alloc, ROOM)?;
+        self.bytes.fill(0xA5);
+        self.lent = 0;
         for pair in digits.chunks(2) {
-            bytes.push(byte(pair).ok_or(LineError::NoCall)?)?;
+            if self.lent == ROOM {
+                return Err(LineError::TooMany);
+            }
+            self.bytes[self.lent] = byte(pair).ok_or(LineError::NoCall)?;
+            self.lent += 1;
         }
-        let lent = bytes.len();
-        if ROOM < lent {
-            return Err(LineError::NoCall);
-        }
-        bytes.resize(ROOM, 0xA5)?;
-        Ok(Memory { bytes, lent })
+        Ok(())
     }
 
     pub fn lent(&self) -> &[u8]
-        ensures { result.now ≡ take self.now.lent self.now.bytes.items }
+        ensures { result.now ≡ take self.now.lent self.now.bytes }
     {
         &self.bytes[..self.lent]
     }

@@ -1,11 +1,11 @@
 // Calls of the streaming layer.
-ghost use Rattle.std.specs.Prelude.{◌≡◌, IfOk, length};
+ghost use Rattle.std.specs.Prelude.{◌≡◌, IfOk, OnOk, length};
 ghost use Rattle.replay.specs.Takes.{takes_streams};
 
 use crate::error::LineError;
+use crate::numbers::Numbers;
 use crate::row::Row;
 use fantailclock::{Stream, fc_stream_end, fc_stream_new, fc_stream_read};
-use std::alloc::Global;
 
 #[derive(Clone, Copy, Debug, PartialEq, Eq)]
 pub enum Streams {
@@ -31,24 +31,24 @@ fn stream(given: &[u64]) -> Result<Stream, LineError>
 }
 
 impl Streams {
-    // What the function answers of the numbers given, if it takes so many.
+    // Puts what the function answers of the numbers given in the row, if it takes so many.
     pub fn answer(
         self,
-        alloc: Global,
         given: &[u64],
         source: &[u8],
         out: &mut [u8],
-    ) -> Result<Vec<u64>, LineError>
-        ensures { IfOk result (λ _. takes_streams self ≡ length given.now) }
+        row: &mut Numbers,
+    ) -> Result<(), LineError>
+        ensures { OnOk result (takes_streams self ≡ length given.now) }
     {
-        let row = match (self, given) {
+        let answered = match (self, given) {
             (Streams::New, &[alphabet, skip, budget]) => {
-                fc_stream_new(alphabet, skip, budget).row(alloc)
+                fc_stream_new(alphabet, skip, budget).row(row)
             }
-            (Streams::Read, state) => fc_stream_read(stream(state)?, source, out).row(alloc),
-            (Streams::End, state) => fc_stream_end(stream(state)?).row(alloc),
+            (Streams::Read, state) => fc_stream_read(stream(state)?, source, out).row(row),
+            (Streams::End, state) => fc_stream_end(stream(state)?).row(row),
             _ => return Err(LineError::NoCall),
         };
-        Ok(row?)
+        Ok(answered?)
     }
 }
