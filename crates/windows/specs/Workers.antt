@@ -4,7 +4,10 @@ use Rattle.bits.specs.Tables.{tabulate}
 use Rattle.bits.specs.Streams.{bit_at, word, fields}
 use Rattle.bits.specs.Packing.{file_byte, first_byte, end_byte}
 use Rattle.alphabet.specs.Symbols.{Coding}
+use Rattle.alphabet.specs.declared.kind.AlphabetType.{AlphabetType}
+use Rattle.alphabet.specs.declared.kind.AlphabetType.TheVariants.{Dna3bit, DnaIupac, Protein}
 use Rattle.windows.specs.Window.{first_lacking_of}
+use Rattle.windows.specs.declared.blocks.ByBlocks.{ByBlocks}
 use Rattle.windows.specs.declared.rolling.Held.{Held}
 
 -- a window, or the rest of one, whose end is near
@@ -35,6 +38,12 @@ pub record Fills (A : Coding) (c n : ℕ) : Type 0 where
   pub some : 0 < n
   pub few : n ≤ 7
   pub whole : c * A.width ≡ n * 8
+
+-- the kind whose bases each of the three engines of blocks writes
+abbrev pub written_by : ByBlocks → AlphabetType
+written_by ByBlocks.Three = Dna3bit
+written_by ByBlocks.Four = DnaIupac
+written_by ByBlocks.Five = Protein
 
 -- the bits at hand are those from bit `place` on, up to byte `next`; the low bits of `acc` are the number that they write
 pub record Holds (byte : ℕ → ℕ) (place : ℕ) (held : Held) : Type 0 where

@@ -7,7 +7,7 @@ ghost use Rattle.bits.specs.Memory.{front};
 ghost use Rattle.alphabet.specs.Symbols.{coding};
 ghost use Rattle.alphabet.specs.declared.kind.AlphabetType.TheVariants.{Dna3bit, DnaIupac, Protein};
 ghost use Rattle.windows.specs.Window.{window};
-ghost use Rattle.windows.specs.Workers.{Fills};
+ghost use Rattle.windows.specs.Workers.{Fills, written_by};
 
 use crate::engine::Engine;
 use crate::lent::Lent;
@@ -109,6 +109,7 @@ pub struct ThreeBits;
 impl Engine for ThreeBits {
     ghost kind = { λ _. Dna3bit };
 
+    #[inline(always)]
     fn write(self, bytes: &[u8], offset: usize, start: usize, out: &mut [u8]) {
         let lent = Lent { bytes, offset };
         let table = DecodingTable::of(AlphabetType::Dna3bit);
@@ -123,6 +124,7 @@ pub struct FourBits;
 impl Engine for FourBits {
     ghost kind = { λ _. DnaIupac };
 
+    #[inline(always)]
     fn write(self, bytes: &[u8], offset: usize, start: usize, out: &mut [u8]) {
         let lent = Lent { bytes, offset };
         let table = DecodingTable::of(AlphabetType::DnaIupac);
@@ -138,9 +140,30 @@ pub struct FiveBits;
 impl Engine for FiveBits {
     ghost kind = { λ _. Protein };
 
+    #[inline(always)]
     fn write(self, bytes: &[u8], offset: usize, start: usize, out: &mut [u8]) {
         let lent = Lent { bytes, offset };
         let table = DecodingTable::of(AlphabetType::Protein);
         eights::<5>(&table, &lent, start, out);
+    }
+}
+
+// The three as one function of the archive, into which each is laid, and which calls no other: a function that hands its slices on copies them first.
+#[derive(Clone, Copy)]
+pub enum ByBlocks {
+    Three,
+    Four,
+    Five,
+}
+
+impl Engine for ByBlocks {
+    ghost kind = { written_by };
+
+    fn write(self, bytes: &[u8], offset: usize, start: usize, out: &mut [u8]) {
+        match self {
+            ByBlocks::Three => ThreeBits.write(bytes, offset, start, out),
+            ByBlocks::Four => FourBits.write(bytes, offset, start, out),
+            ByBlocks::Five => FiveBits.write(bytes, offset, start, out),
+        }
     }
 }

@@ -7,7 +7,7 @@ ghost use Rattle.alphabet.specs.Names.{kind_of};
 ghost use Rattle.windows.specs.Window.{read_at, read_memory, covered_at, covered_memory};
 
 use crate::asked::{asked, asked_covered, kind_of};
-use crate::blocks::{FiveBits, FourBits, ThreeBits};
+use crate::blocks::ByBlocks;
 use crate::engine::Engine;
 use crate::fours::TwoBits;
 use crate::lacking::first_lacking;
@@ -48,9 +48,9 @@ impl Engine for Own {
     fn write(self, bytes: &[u8], offset: usize, start: usize, out: &mut [u8]) {
         match self.kind {
             AlphabetType::Dna2bit => TwoBits.write(bytes, offset, start, out),
-            AlphabetType::Dna3bit => ThreeBits.write(bytes, offset, start, out),
-            AlphabetType::DnaIupac => FourBits.write(bytes, offset, start, out),
-            AlphabetType::Protein => FiveBits.write(bytes, offset, start, out),
+            AlphabetType::Dna3bit => ByBlocks::Three.write(bytes, offset, start, out),
+            AlphabetType::DnaIupac => ByBlocks::Four.write(bytes, offset, start, out),
+            AlphabetType::Protein => ByBlocks::Five.write(bytes, offset, start, out),
             AlphabetType::Ascii | AlphabetType::Unknown => {
                 Rolling { kind: self.kind }.write(bytes, offset, start, out)
             }
@@ -180,7 +180,7 @@ pub fn decode_3bit(
     ensures value { result ≡ read_at 1 byte_offset start end (length out.old) }
     ensures out_after { out.new ≡ read_memory 1 bytes.now byte_offset start end out.old }
 {
-    zero_filling(ThreeBits, 1, bytes, byte_offset, start, end, out)
+    zero_filling(ByBlocks::Three, 1, bytes, byte_offset, start, end, out)
 }
 
 // The engine of DnaIupac: two bases from each byte.
@@ -194,7 +194,7 @@ pub fn decode_4bit(
     ensures value { result ≡ read_at 2 byte_offset start end (length out.old) }
     ensures out_after { out.new ≡ read_memory 2 bytes.now byte_offset start end out.old }
 {
-    zero_filling(FourBits, 2, bytes, byte_offset, start, end, out)
+    zero_filling(ByBlocks::Four, 2, bytes, byte_offset, start, end, out)
 }
 
 // The engine of Protein: eight bases from five bytes.
@@ -208,7 +208,7 @@ pub fn decode_5bit(
     ensures value { result ≡ read_at 3 byte_offset start end (length out.old) }
     ensures out_after { out.new ≡ read_memory 3 bytes.now byte_offset start end out.old }
 {
-    zero_filling(FiveBits, 3, bytes, byte_offset, start, end, out)
+    zero_filling(ByBlocks::Five, 3, bytes, byte_offset, start, end, out)
 }
 
 // The engine of any alphabet: the rolling accumulator.
